@@ -1,0 +1,1 @@
+// The refusals of the twin; their numbers are in specs/Refusals.antt.

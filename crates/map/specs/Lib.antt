@@ -1,0 +1,3 @@
+pub mod Registers
+pub mod Class
+pub mod Map
