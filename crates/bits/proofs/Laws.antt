@@ -6,7 +6,11 @@ use native.Mathlib.Nat.{two-pow-succ, div-one, mod-one, zero-div, zero-add, suc-
 use native.Mathlib.Numerals.{one-add, add-one}
 use lib.Pow.{pow-pos, pow-mono, shr-shr, mod-pow-add}
 use lib.Bits.{bitAnd, bitOr, bitXor, differ, and-step, or-step, xor-step, and-shr, xor-shr, and-zero-l, or-zero-l}
-use Rattle.bits.specs.Bits.{bit, numberOf, pickBit, blendK}
+use mathlib.Core.Bool.{Bool, true, false}
+use lib.Dec.{ltb}
+use borrow.Author.Tests.{lt-ltb, le-ltb, ltb-true, ltb-false}
+use Rattle.bits.specs.Choice.{pick}
+use Rattle.bits.specs.Bits.{bit, numberOf, little, pickBit, blendK}
 
 -- one bit of each: the operators are the pick
 one-bit : (m o n : ℕ) → m < 2 → o < 2 → n < 2 → max (min o (differ 1 m)) (min n m) ≡ pickBit m o n
@@ -180,3 +184,35 @@ number-mod (suc k) x =
 -- k bits of x from bit a on
 pub number-part : (k a x : ℕ) → numberOf k (λ (j : ℕ). bit x (a + j)) ≡ x / 2 ^ a % 2 ^ k
 number-part k a x = number-ext k (λ (j : ℕ). bit x (a + j)) (bit (x / 2 ^ a)) (λ j h. ap (λ (n : ℕ). n % 2) (sym (shr-shr x a j))) ∙ number-mod k (x / 2 ^ a)
+
+-- ---- bytes and their bits
+
+-- the number of n bytes, bit by bit: bit b is bit b % 8 of byte b / 8
+pub little-bits : (n : ℕ) (f : ℕ → ℕ) → ((k : ℕ) → f k < 2 ^ 8) → numberOf (8 * n) (λ (b : ℕ). bit (f (b / 8)) (b % 8)) ≡ little n f
+unfolding numberOf little
+little-bits zero f h = refl
+little-bits (suc n) f h =
+    let e : 8 * suc n ≡ 8 + 8 * n = omega arith in
+    let low : numberOf 8 (λ (b : ℕ). bit (f (b / 8)) (b % 8)) ≡ f 0 = number-bits 8 (f 0) (h 0) in
+    let up : numberOf (8 * n) (λ (b : ℕ). bit (f ((8 + b) / 8)) ((8 + b) % 8)) ≡ little n (λ (k : ℕ). f (suc k)) =
+    number-ext (8 * n) (λ (b : ℕ). bit (f ((8 + b) / 8)) ((8 + b) % 8)) (λ (b : ℕ). bit (f (suc (b / 8))) (b % 8)) (λ b l. let q : (8 + b) / 8 ≡ suc (b / 8) = omega arith in let r : (8 + b) % 8 ≡ b % 8 = omega arith in rw (q, r)) ∙ little-bits n (λ (k : ℕ). f (suc k)) (λ k. h (suc k)) in
+    ap (λ (w : ℕ). numberOf w (λ (b : ℕ). bit (f (b / 8)) (b % 8))) e ∙ number-split 8 (8 * n) (λ (b : ℕ). bit (f (b / 8)) (b % 8)) ∙ rw (low, up) (omega arith)
+
+ltb-suc : (j l : ℕ) → ltb (suc j) (suc l) ≡ ltb j l
+ltb-suc j l = go (ltb j l) refl
+  where
+    go : (b : Bool) → ltb j l ≡ b → ltb (suc j) (suc l) ≡ b
+    go true e = lt-ltb (suc j) (suc l) (omega (arith, ltb-true j l e))
+    go false e = le-ltb (suc j) (suc l) (omega (arith, ltb-false j l e))
+
+-- bits below `low` taken as 0
+pub number-above : (k low : ℕ) (f : ℕ → ℕ) → ((j : ℕ) → f j < 2) → numberOf k (λ (b : ℕ). pick (ltb b low) 0 (f b)) ≡ numberOf k f / 2 ^ low * 2 ^ low
+unfolding numberOf
+number-above zero low f h = rw (zero-div (2 ^ low)) (omega arith)
+number-above (suc k) zero f h = number-ext (suc k) (λ (b : ℕ). pick (ltb b 0) 0 (f b)) f (λ b l. rw (le-ltb b 0 (omega arith))) ∙ rw div-one (omega arith)
+number-above (suc k) (suc low) f h =
+    let half : (numberOf k (λ (j : ℕ). f (suc j)) * 2 + f 0) / 2 ≡ numberOf k (λ (j : ℕ). f (suc j)) = omega (arith, h 0) in
+    let up : numberOf k (λ (j : ℕ). pick (ltb (suc j) (suc low)) 0 (f (suc j))) ≡ numberOf k (λ (j : ℕ). f (suc j)) / 2 ^ low * 2 ^ low =
+    number-ext k (λ (j : ℕ). pick (ltb (suc j) (suc low)) 0 (f (suc j))) (λ (j : ℕ). pick (ltb j low) 0 (f (suc j))) (λ j l. rw (ltb-suc j low)) ∙ number-above k low (λ (j : ℕ). f (suc j)) (λ j. h (suc j)) in
+    let first : ltb 0 (suc low) ≡ true = lt-ltb 0 (suc low) (omega arith) in
+    rw (up, first, ← shr-suc, half, two-pow-succ, mul-add) (omega arith)

@@ -18,6 +18,11 @@ numberOf (suc k) f = numberOf k (λ (j : ℕ). f (suc j)) * 2 + f 0
 abbrev pub byteOf : (ℕ → ℕ) → ℕ
 byteOf f = numberOf 8 f
 
+-- the number made of n bytes, f 0 the lowest: values are little-endian
+unfoldable pub little : ℕ → (ℕ → ℕ) → ℕ
+little zero f = 0
+little (suc n) f = little n (λ (k : ℕ). f (suc k)) * 256 + f 0
+
 -- the new bit where the mask's is set, else the old
 abbrev pub pickBit : ℕ → ℕ → ℕ → ℕ
 pickBit zero o n = o

@@ -52,6 +52,19 @@ isHost c = kind c .hosted
 abbrev pub hasF : Class → Bool
 hasF c = kind c .returned
 
+-- the bit of GMADR that a class names, 0 for the others
+abbrev pub apertureBit : Class → ℕ
+apertureBit readOnly = 0
+apertureBit host = 0
+apertureBit guest = 0
+apertureBit guestF = 0
+apertureBit (once f) = 0
+apertureBit sizeCode = 0
+apertureBit (aperture b) = b
+apertureBit power = 0
+apertureBit computed = 0
+apertureBit resetStart = 0
+
 -- a number for each class, to tell two apart
 abbrev pub number : Class → ℕ
 number readOnly = 0

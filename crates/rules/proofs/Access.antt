@@ -1,0 +1,90 @@
+-- Laws of an access and of one bit: what is enabled, that a bit stays a bit, that only byte 3 of GMADR has bits that a size code takes.
+use mathlib.Core.Path.{_≡_, refl, sym, subst}
+use mathlib.Core.Bool.{Bool, true, false, not}
+use Prim.Native.Nat.{ℕ, zero, suc, _+_, _-_, _/_, _%_, _^_, _<_, _≤_}
+use native.Mathlib.Omega.{arith}
+use lib.Dec.{T, eqb, leb, ltb, leb→le, ltb→lt}
+use borrow.Author.Tests.{ne-eqb, le-leb, lt-ltb, lt-leb}
+use Rattle.bits.specs.Bits.{bit, numberOf, byteOf}
+use Rattle.bits.specs.Choice.{pick, both, either, allBelow}
+use Rattle.bits.proofs.Laws.{number-bits, bit<2}
+use Rattle.bits.proofs.Below.{below, both-left, both-right, pick-has, other, false-unless}
+use Rattle.map.specs.Registers.{GMADR, MSAC}
+use Rattle.map.specs.Class.{hasF, apertureBit, resetStart, sameClass}
+use Rattle.map.specs.Map.{rows, rowAt, classOf, defaultAt}
+use Rattle.rules.specs.declared.State.{State}
+use Rattle.rules.specs.declared.Closed.{Closed}
+use Rattle.rules.specs.Access.{byte, enabled, byteFor}
+use Rattle.rules.specs.Guest.{leastExponent, exponentOf, takenBy, takes, store, clear, reset, starts, storedBit, sizeAfter, bitAfter}
+
+-- ---- what is enabled
+
+-- an enabled byte is one of the four
+pub enabled-within : (o l i : ℕ) → T (enabled o l i) → (o ≤ i) × (i < o + 4)
+unfolding enabled
+enabled-within o l i t = (leb→le o i (both-left (leb o i) _ t), ltb→lt i (o + 4) (both-left (ltb i (o + 4)) _ (both-right (leb o i) _ t)))
+
+pub not-within : (o l i : ℕ) → ((o ≤ i) → (i < o + 4) → ⊥) → enabled o l i ≡ false
+not-within o l i n = false-unless (enabled o l i) (λ t. n (enabled-within o l i t .0) (enabled-within o l i t .1))
+
+-- byte k of the dword is enabled by bit k of the lanes
+pub enabled-at : (o l k : ℕ) → k < 4 → enabled o l (o + k) ≡ eqb (bit l k) 1
+unfolding enabled
+enabled-at o l k h =
+    let e : o + k - o ≡ k = omega arith in
+    rw (le-leb o (o + k) (omega arith), lt-ltb (o + k) (o + 4) (omega arith), e)
+
+pub byteFor-at : (o v k : ℕ) → byteFor o v (o + k) ≡ v / 256 ^ k % 256
+unfolding byteFor
+byteFor-at o v k =
+    let e : o + k - o ≡ k = omega arith in
+    rw e
+
+-- ---- a bit stays a bit
+
+bit-pick : (b : Bool) (x y : ℕ) → x < 2 → y < 2 → pick b x y < 2
+bit-pick b x y p q = pick-has (λ (n : ℕ). n < 2) b x y p q
+
+store<2 : (e : Bool) (c : Closed) (code w i j x : ℕ) → x < 2 → store e c code w i j x < 2
+unfolding store
+store<2 true c code w i j x h = bit-pick (takes c code w (classOf i j)) (bit w j) x (bit<2 w j) h
+store<2 false c code w i j x h = h
+
+pub stored<2 : (s : State) (o l v i j : ℕ) → storedBit s o l v i j < 2
+unfolding storedBit
+stored<2 s o l v i j = store<2 (enabled o l i) (s .closed) _ (byteFor o v i) i j (bit (byte s i) j) (bit<2 (byte s i) j)
+
+pub clear<2 : (e : Bool) (code i j x : ℕ) → x < 2 → clear e code i j x < 2
+unfolding clear
+clear<2 true code i j x h = bit-pick (takenBy code (classOf i j)) 0 x (omega arith) h
+clear<2 false code i j x h = h
+
+reset<2 : (e : Bool) (i j x : ℕ) → x < 2 → reset e i j x < 2
+unfolding reset
+reset<2 true i j x h = bit-pick (hasF (classOf i j)) (bit (defaultAt i) j) _ (bit<2 (defaultAt i) j) (bit-pick (sameClass (classOf i j) resetStart) 0 x (omega arith) h)
+reset<2 false i j x h = h
+
+pub after<2 : (s : State) (o l v i j : ℕ) → bitAfter s o l v i j < 2
+unfolding bitAfter
+after<2 s o l v i j = reset<2 (starts o l v) i j _ (clear<2 (enabled o l MSAC) (sizeAfter s o l v) i j _ (stored<2 s o l v i j))
+
+-- a byte that is not enabled stays
+pub outside : (s : State) (o l v i : ℕ) → byte s i < 2 ^ 8 → enabled o l i ≡ false → byte s i ≡ byteOf (storedBit s o l v i)
+unfolding storedBit store numberOf
+outside s o l v i b e = rw e (sym (number-bits 8 (byte s i) b))
+
+-- ---- the aperture
+
+no-aperture-at : ℕ → Bool
+no-aperture-at i = either (eqb i (GMADR + 3)) (allBelow 8 (λ (j : ℕ). ltb (apertureBit (classOf i j)) leastExponent))
+
+all-no-aperture : T (allBelow 256 no-aperture-at)
+unfolding no-aperture-at rows rowAt classOf
+all-no-aperture = tt
+
+-- only byte 3 of GMADR has bits that a size code takes
+pub no-aperture : (code i j : ℕ) → i < 256 → (i ≡ GMADR + 3 → ⊥) → j < 8 → takenBy code (classOf i j) ≡ false
+unfolding takenBy no-aperture-at
+no-aperture code i j h n k =
+    let t : T (ltb (apertureBit (classOf i j)) leastExponent) = below 8 (λ (j : ℕ). ltb (apertureBit (classOf i j)) leastExponent) (other (eqb i (GMADR + 3)) _ (ne-eqb i (GMADR + 3) n) (below 256 no-aperture-at all-no-aperture i h)) j k in
+    rw (lt-leb leastExponent (apertureBit (classOf i j)) (ltb→lt _ _ t))

@@ -1,0 +1,79 @@
+-- For every state, access and bit: what the bit holds afterwards, and what a read gives of it.
+use mathlib.Core.Path.{_≡_, refl, sym, ap, _∙_}
+use mathlib.Core.Bool.{Bool, true, false, not}
+use Prim.Native.Nat.{ℕ, _+_, _*_, _/_, _%_, _^_, _<_, _≤_}
+use native.Mathlib.Omega.{arith}
+use lib.Dec.{eqb, ltb}
+use Rattle.bits.specs.Bits.{bit, byteOf}
+use Rattle.bits.specs.Choice.{pick, both, either}
+use Rattle.bits.specs.Places.{bytes}
+use Rattle.bits.proofs.Laws.{bit-number, bit<2}
+use Rattle.bits.proofs.Below.{pick-has}
+use Rattle.bits.proofs.Places.{getD-bytes}
+use Rattle.map.specs.Class.{computed, sameClass}
+use Rattle.map.specs.Map.{classOf}
+use Rattle.rules.specs.declared.State.{State}
+use Rattle.rules.specs.Access.{byte, badOffset, badLanes, Outcome, done, refused}
+use Rattle.rules.specs.Guest.{bitAfter, stepOf, writeOf}
+use Rattle.rules.specs.Read.{pointer, readBit, undriven, readValue}
+use Rattle.rules.specs.Host.{notHost, hostBit, hostStepOf, hostOf}
+use Rattle.rules.proofs.Access.{after<2}
+
+-- 256 bytes made of their bits: bit j of byte i
+of-bytes : (f : ℕ → ℕ → ℕ) → ((i j : ℕ) → f i j < 2) → (s : State) → s .bytes ≡ bytes (λ (i : ℕ). byteOf (f i)) → (i j : ℕ) → i < 256 → j < 8 → bit (byte s i) j ≡ f i j
+of-bytes f b s e i j h k = rw e (ap (λ (x : ℕ). bit x j) (getD-bytes (λ (i : ℕ). byteOf (f i)) i h) ∙ bit-number 8 (f i) (b i) j k)
+
+-- an accepted guest write
+pub bit-after : (s : State) (o l v i j : ℕ) → i < 256 → j < 8 → bit (byte (stepOf s o l v) i) j ≡ bitAfter s o l v i j
+unfolding stepOf
+bit-after s o l v i j h k = of-bytes (bitAfter s o l v) (after<2 s o l v) (stepOf s o l v) refl i j h k
+
+pub host<2 : (s : State) (o m v i j : ℕ) → hostBit s o m v i j < 2
+unfolding hostBit
+host<2 s o m v i j = pick-has (λ (x : ℕ). x < 2) (both (eqb i o) (eqb (bit m j) 1)) (bit v j) (bit (byte s i) j) (bit<2 v j) (bit<2 (byte s i) j)
+
+-- an accepted host update
+pub bit-hosted : (s : State) (o m v i j : ℕ) → i < 256 → j < 8 → bit (byte (hostStepOf s o m v) i) j ≡ hostBit s o m v i j
+unfolding hostStepOf
+bit-hosted s o m v i j h k = of-bytes (hostBit s o m v) (host<2 s o m v) (hostStepOf s o m v) refl i j h k
+
+-- ---- refused or accepted
+
+-- an entry with two refusals leaves the state, or takes the step
+two-refusals : (a b : Bool) (m n : ℕ) (s t : State) → pick a (refused m s) (pick b (refused n s) (done t)) .state ≡ pick (not (either a b)) t s
+two-refusals true b m n s t = refl
+two-refusals false true m n s t = refl
+two-refusals false false m n s t = refl
+
+pub write-state : (s : State) (o l v : ℕ) → writeOf s o l v .state ≡ pick (not (either (badOffset o) (badLanes l))) (stepOf s o l v) s
+unfolding writeOf
+write-state s o l v = two-refusals (badOffset o) (badLanes l) _ _ s (stepOf s o l v)
+
+pub host-state : (s : State) (o m v : ℕ) → hostOf s o m v .state ≡ pick (not (either (ltb 255 o) (notHost o m))) (hostStepOf s o m v) s
+unfolding hostOf
+host-state s o m v = two-refusals (ltb 255 o) (notHost o m) _ _ s (hostStepOf s o m v)
+
+-- ---- the laws that a reader quotes, by the number n of the bit, below 2,048
+
+pub each-bit-written : (s : State) (o l v n : ℕ) → n < 2048 → bit (byte (writeOf s o l v .state) (n / 8)) (n % 8) ≡ pick (not (either (badOffset o) (badLanes l))) (bitAfter s o l v (n / 8) (n % 8)) (bit (byte s (n / 8)) (n % 8))
+each-bit-written s o l v n h = rw (write-state s o l v) (go (not (either (badOffset o) (badLanes l))))
+  where
+    go : (a : Bool) → bit (byte (pick a (stepOf s o l v) s) (n / 8)) (n % 8) ≡ pick a (bitAfter s o l v (n / 8) (n % 8)) (bit (byte s (n / 8)) (n % 8))
+    go true = bit-after s o l v (n / 8) (n % 8) (omega arith) (omega arith)
+    go false = refl
+
+pub each-bit-updated : (s : State) (o m v n : ℕ) → n < 2048 → bit (byte (hostOf s o m v .state) (n / 8)) (n % 8) ≡ pick (not (either (ltb 255 o) (notHost o m))) (hostBit s o m v (n / 8) (n % 8)) (bit (byte s (n / 8)) (n % 8))
+each-bit-updated s o m v n h = rw (host-state s o m v) (go (not (either (ltb 255 o) (notHost o m))))
+  where
+    go : (a : Bool) → bit (byte (pick a (hostStepOf s o m v) s) (n / 8)) (n % 8) ≡ pick a (hostBit s o m v (n / 8) (n % 8)) (bit (byte s (n / 8)) (n % 8))
+    go true = bit-hosted s o m v (n / 8) (n % 8) (omega arith) (omega arith)
+    go false = refl
+
+pub read<2 : (s : State) (i j : ℕ) → readBit s i j < 2
+unfolding readBit
+read<2 s i j = pick-has (λ (x : ℕ). x < 2) (sameClass (classOf i j) computed) (bit (pointer s) j) (bit (byte s i) j) (bit<2 (pointer s) j) (bit<2 (byte s i) j)
+
+-- bit n of a read's value: that of the byte in its lane where the lane is enabled
+pub each-bit-read : (s : State) (o l n : ℕ) → n < 32 → bit (readValue s o l) n ≡ pick (eqb (bit l (n / 8)) 1) (readBit s (o + n / 8) (n % 8)) undriven
+unfolding readValue
+each-bit-read s o l n h = bit-number 32 (λ (n : ℕ). pick (eqb (bit l (n / 8)) 1) (readBit s (o + n / 8) (n % 8)) undriven) (λ n. pick-has (λ (x : ℕ). x < 2) (eqb (bit l (n / 8)) 1) (readBit s (o + n / 8) (n % 8)) undriven (read<2 s (o + n / 8) (n % 8)) (omega arith)) n h

@@ -1,0 +1,42 @@
+-- An access of the dword at offset o with lanes l, and what an entry that changes the state gives.
+use mathlib.Core.Bool.{Bool, not}
+use Prim.Native.Nat.{ℕ, _+_, _-_, _/_, _%_, _^_}
+use lib.ListN.{getD}
+use Rattle.bits.specs.Bits.{bit}
+use Rattle.bits.specs.Choice.{_and_, _or_, _is_, _≤?_, _<?_}
+use Rattle.answer.specs.Refusals.{Reply, ok, no}
+use Rattle.rules.specs.declared.State.{State}
+
+abbrev pub byte : State → ℕ → ℕ
+byte s i = getD (s .bytes) i 0
+
+-- bit i of the lanes is for byte offset + i
+unfoldable pub enabled : ℕ → ℕ → ℕ → Bool
+enabled o l i = o ≤? i and i <? o + 4 and bit l (i - o) is 1
+
+-- what the value has for byte i
+unfoldable pub byteFor : ℕ → ℕ → ℕ → ℕ
+byteFor o v i = v / 256 ^ (i - o) % 256
+
+-- ---- refusals 5 and 6 of a direct access
+
+-- the offset is above 255 or not a multiple of 4
+abbrev pub badOffset : ℕ → Bool
+badOffset o = 255 <? o or not (o % 4 is 0)
+
+-- the lanes are above 15
+abbrev pub badLanes : ℕ → Bool
+badLanes l = 15 <? l
+
+-- ---- what is said, and the state afterwards
+
+pub record Outcome : Type 0 where
+  pub reply : Reply
+  pub state : State
+
+abbrev pub done : State → Outcome
+done s = record { reply = ok 0; state = s }
+
+-- a refusal leaves the state unchanged
+abbrev pub refused : ℕ → State → Outcome
+refused n s = record { reply = no n; state = s }

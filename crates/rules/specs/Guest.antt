@@ -1,0 +1,112 @@
+-- A guest write, bit by bit ('How a bit behaves').
+use mathlib.Core.Bool.{Bool, true, false, not}
+use Prim.Native.Nat.{ℕ, _+_}
+use Rattle.bits.specs.Bits.{bit, field, byteOf}
+use Rattle.bits.specs.Choice.{if_then_else_, _and_, _or_, _is_, _≤?_, _<?_, anyBelow}
+use Rattle.bits.specs.Places.{bytes}
+use Rattle.answer.specs.Refusals.{OFFSET, LANES}
+use Rattle.map.specs.Registers.{MSAC, AFCTL}
+use Rattle.map.specs.Class.{Field, svid2, sid2, swsci15, Class, readOnly, host, guest, guestF, once, sizeCode, aperture, power, computed, resetStart, hasF, apertureBit, sameClass}
+use Rattle.map.specs.Map.{classOf, defaultAt}
+use Rattle.rules.specs.declared.State.{State}
+use Rattle.rules.specs.declared.Closed.{Closed}
+use Rattle.rules.specs.Access.{byte, enabled, byteFor, badOffset, badLanes, Outcome, done, refused}
+
+-- ---- the write-once fields
+
+abbrev pub closed : Closed → Field → Bool
+closed c svid2 = not (c .svid2 is 0)
+closed c sid2 = not (c .sid2 is 0)
+closed c swsci15 = not (c .swsci15 is 0)
+
+-- a byte of the field
+unfoldable pub ofField : Field → ℕ → Bool
+ofField f i = anyBelow 8 (λ (j : ℕ). sameClass (classOf i j) (once f))
+
+-- the write enables a byte of the field
+unfoldable pub touches : ℕ → ℕ → Field → Bool
+touches o l f = anyBelow 4 (λ (k : ℕ). bit l k is 1 and ofField f (o + k))
+
+-- the first write that enables any byte of the field closes the whole field
+abbrev pub flagAfter : ℕ → ℕ → Field → ℕ → ℕ
+flagAfter o l f was = if touches o l f then 1 else was
+
+unfoldable pub closedAfter : ℕ → ℕ → Closed → Closed
+closedAfter o l c = record { svid2 = flagAfter o l svid2 (c .svid2); sid2 = flagAfter o l sid2 (c .sid2); swsci15 = flagAfter o l swsci15 (c .swsci15) }
+
+-- ---- MSAC's size code, bits 2:1
+
+abbrev pub sizeOf : ℕ → ℕ
+sizeOf msac = field msac 2 1
+
+-- code 00 names 128 MB, 2 ^ 27
+abbrev pub leastExponent : ℕ
+leastExponent = 27
+
+-- how many bits of GMADR, from bit 27 up, the code makes read-only: 01 bit 27, 11 bits 28:27, 00 neither; 10 (foreign states only) neither
+unfoldable pub bitsTaken : ℕ → ℕ
+bitsTaken code = if code is 3 then 2 else if code is 1 then 1 else 0
+
+-- 01 names 256 MB, 11 names 512 MB: each bit taken doubles the size
+abbrev pub exponentOf : ℕ → ℕ
+exponentOf code = leastExponent + bitsTaken code
+
+unfoldable pub takenBy : ℕ → Class → Bool
+takenBy code c = leastExponent ≤? apertureBit c and apertureBit c <? exponentOf code
+
+-- ---- in an enabled lane, does a bit of this class take the bit written? code: the size code that stands; w: the byte written
+
+unfoldable pub takes : Closed → ℕ → ℕ → Class → Bool
+takes c code w readOnly = false
+takes c code w host = false
+takes c code w guest = true
+takes c code w guestF = true
+takes c code w (once f) = not (closed c f)
+takes c code w sizeCode = not (sizeOf w is 2)
+takes c code w (aperture b) = not (takenBy code (aperture b))
+takes c code w power = field w 1 0 is 0 or field w 1 0 is 3
+takes c code w computed = false
+takes c code w resetStart = false
+
+-- ---- bit j of byte i, was x
+
+-- a guest write touches only enabled lanes
+unfoldable pub store : Bool → Closed → ℕ → ℕ → ℕ → ℕ → ℕ → ℕ
+store true c code w i j x = if takes c code w (classOf i j) then bit w j else x
+store false c code w i j x = x
+
+-- every write that enables MSAC clears the bits that the code then makes read-only
+unfoldable pub clear : Bool → ℕ → ℕ → ℕ → ℕ → ℕ
+clear true code i j x = if takenBy code (classOf i j) then 0 else x
+clear false code i j x = x
+
+-- a function reset returns F bits to default, and the bit that starts it then reads 0
+unfoldable pub reset : Bool → ℕ → ℕ → ℕ → ℕ
+reset true i j x = if hasF (classOf i j) then bit (defaultAt i) j else if sameClass (classOf i j) resetStart then 0 else x
+reset false i j x = x
+
+-- ---- a guest write of v to the dword at o, with lanes l
+
+-- writing 1 to bit 0 of AFCTL starts a function reset
+unfoldable pub starts : ℕ → ℕ → ℕ → Bool
+starts o l v = enabled o l AFCTL and bit (byteFor o v AFCTL) 0 is 1
+
+unfoldable pub storedBit : State → ℕ → ℕ → ℕ → ℕ → ℕ → ℕ
+storedBit s o l v i j = store (enabled o l i) (s .closed) (sizeOf (byte s MSAC)) (byteFor o v i) i j (bit (byte s i) j)
+
+-- the size code that then stands
+unfoldable pub sizeAfter : State → ℕ → ℕ → ℕ → ℕ
+sizeAfter s o l v = sizeOf (byteOf (storedBit s o l v MSAC))
+
+-- stored, then cleared, then reset
+unfoldable pub bitAfter : State → ℕ → ℕ → ℕ → ℕ → ℕ → ℕ
+bitAfter s o l v i j = reset (starts o l v) i j (clear (enabled o l MSAC) (sizeAfter s o l v) i j (storedBit s o l v i j))
+
+unfoldable pub stepOf : State → ℕ → ℕ → ℕ → State
+stepOf s o l v = record { bytes = bytes (λ (i : ℕ). byteOf (bitAfter s o l v i)); latch = s .latch; closed = closedAfter o l (s .closed) }
+
+unfoldable pub writeOf : State → ℕ → ℕ → ℕ → Outcome
+writeOf s o l v =
+    if badOffset o then refused OFFSET s
+    else if badLanes l then refused LANES s
+    else done (stepOf s o l v)

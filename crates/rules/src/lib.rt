@@ -1,0 +1,72 @@
+// The twin's state, and an enum for each kind of answer. What each access does is in specs/; this crate has no code.
+
+// The write-once fields: 0 open, any other number closed.
+#[repr(C)]
+pub struct Closed {
+    pub svid2: u8,
+    pub sid2: u8,
+    pub swsci15: u8,
+}
+
+// The 256 configuration bytes, the port latch, and which write-once fields are closed. Every pattern of bytes is a state.
+#[repr(C)]
+pub struct State {
+    pub bytes: [u8; 256],
+    pub latch: u32,
+    pub closed: Closed,
+}
+
+pub enum ReadAnswer {
+    Value(u32),
+    Offset,
+    Lanes,
+}
+
+pub enum WriteAnswer {
+    Done,
+    Offset,
+    Lanes,
+}
+
+pub struct Written {
+    pub answer: WriteAnswer,
+    pub state: State,
+}
+
+pub enum HostAnswer {
+    Done,
+    Offset,
+    NotHost,
+}
+
+pub struct Updated {
+    pub answer: HostAnswer,
+    pub state: State,
+}
+
+pub enum PortReadAnswer {
+    Value(u32),
+    Width,
+    NotOurs,
+    OtherFunction,
+}
+
+pub enum PortWriteAnswer {
+    Done,
+    Width,
+    NotOurs,
+    OtherFunction,
+}
+
+pub struct PortWritten {
+    pub answer: PortWriteAnswer,
+    pub state: State,
+}
+
+// The window that claims an address, with the offset inside, or none.
+pub enum Claim {
+    Translation(u32),
+    Aperture(u32),
+    Io(u32),
+    None,
+}
