@@ -3,7 +3,7 @@ use mathlib.Core.Path.{_≡_, refl, sym, _∙_}
 use Prim.Native.Nat.{suc, _≤_, _<_, _-_, _+_}
 use native.Mathlib.Omega.{arith}
 use borrow.Author.Needs.{needs}
-use Rattle.walk.specs.Walk.{dropped, walkFrom, most}
+use Rattle.walk.specs.Walk.{walkFrom, most}
 use Rattle.walk.proofs.Stops.{at-zero, at-pointer, at-endless, at-wanted, goes-on}
 use Rattle.walk.proofs.items.Statement.{statement}
 use Rattle.walk.proofs.items.Tie as tie
@@ -42,7 +42,7 @@ loop-again : tie.Need-loop-again Inv-loop μ-loop
 loop-again c =
     let d = c .before .before .before .before .before .before .loop in
     let left : most - d .n ≡ suc (most - (d .n + 1)) = omega arith in
-    (omega arith, omega (arith, c .shared-slice-known2 .given (dropped (d .p) + 1)), sym (goes-on _ _ _ _ (λ z. omega arith) (omega arith) _ (c .before .if4 .left)) ∙ rw left at (d .inv .2))
+    (omega arith, c .shared-slice-known2 .given _ .fits, sym (goes-on _ _ _ _ (λ z. omega arith) (omega arith) _ (c .before .if4 .left)) ∙ rw left at (d .inv .2))
 
 returns : tie.Need-returns Inv-loop μ-loop
 returns c = sym (at-zero _ _ _ _ _ (omega arith)) ∙ c .before .loop .inv .2

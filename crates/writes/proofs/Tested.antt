@@ -1,0 +1,127 @@
+-- What the code tests: which writes clear the aperture, start a reset, and close a field.
+use mathlib.Core.Path.{_≡_, refl, sym, ap, subst, _∙_}
+use mathlib.Core.List.{List}
+use mathlib.Core.Bool.{Bool, true, false, not}
+use Prim.Native.Nat.{ℕ, _+_, _*_, _/_, _%_, _^_, _<_}
+use native.Mathlib.Omega.{arith}
+use native.Mathlib.Nat.{div-one}
+use lib.Dec.{T, eqb}
+use borrow.Author.Tests.{ne-eqb}
+use Rattle.bits.specs.Bits.{bit}
+use Rattle.bits.specs.Choice.{pick, both, either, allBelow, anyBelow}
+use Rattle.bits.proofs.Below.{below, same, same-eq, any-ext}
+use Rattle.map.specs.Registers.{SVID2, SID2, SWSCI, MSAC, AFCTL}
+use Rattle.map.specs.Class.{Field, svid2, sid2, swsci15}
+use Rattle.map.specs.Map.{rows, rowAt, classOf}
+use Rattle.rules.specs.declared.Closed.{Closed}
+use Rattle.rules.specs.Access.{enabled, byteFor}
+use Rattle.rules.specs.Guest.{starts, ofField, touches, flagAfter}
+use Rattle.rules.proofs.Access.{not-within}
+use Rattle.writes.specs.Lanes.{storedBytes, clearedBytes, resetBytes, clearIf, resetIf, stepBytes, shutOf}
+
+-- ---- MSAC and AFCTL
+
+abbrev pub msacDword : ℕ
+msacDword = MSAC / 4 * 4
+
+msac-at : (o l : ℕ) → o ≡ msacDword → enabled o l MSAC ≡ eqb (l / 4 % 2) 1
+unfolding enabled
+msac-at o l e = rw e
+
+msac-not : (o l : ℕ) → o % 4 ≡ 0 → (o ≡ msacDword → ⊥) → enabled o l MSAC ≡ false
+msac-not o l a n = not-within o l MSAC (λ x y. n (omega arith))
+
+starts-at : (o l v : ℕ) → o ≡ AFCTL → starts o l v ≡ both (eqb (l % 2) 1) (eqb (v % 2) 1)
+unfolding starts enabled byteFor
+starts-at o l v e =
+    let m : v / 1 % 256 / 1 % 2 ≡ v % 2 = rw div-one (omega (arith, div-one v)) in
+    rw (e, m, div-one)
+
+starts-not : (o l v : ℕ) → o % 4 ≡ 0 → (o ≡ AFCTL → ⊥) → starts o l v ≡ false
+unfolding starts
+starts-not o l v a n = rw (not-within o l AFCTL (λ x y. n (omega arith)))
+
+module _ (g : List ℕ) (c : Closed) (m : List ℕ) (o l v : ℕ) (a : o % 4 ≡ 0) where
+  pub clears : o ≡ msacDword → l / 4 % 2 ≡ 1 → stepBytes g c m o l v ≡ clearedBytes (storedBytes g c m o l v)
+  unfolding stepBytes clearIf resetIf
+  clears e h = rw (starts-not o l v a (λ d. omega arith), msac-at o l e, h)
+
+  pub clears-not : o ≡ msacDword → (l / 4 % 2 ≡ 1 → ⊥) → stepBytes g c m o l v ≡ storedBytes g c m o l v
+  unfolding stepBytes clearIf resetIf
+  clears-not e h = rw (starts-not o l v a (λ d. omega arith), msac-at o l e, ne-eqb (l / 4 % 2) 1 h)
+
+  pub resets : (o ≡ msacDword → ⊥) → o ≡ AFCTL → l % 2 ≡ 1 → v % 2 ≡ 1 → stepBytes g c m o l v ≡ resetBytes (storedBytes g c m o l v)
+  unfolding stepBytes clearIf resetIf
+  resets n e h k = rw (starts-at o l v e, msac-not o l a n, h, k)
+
+  pub resets-not : (o ≡ msacDword → ⊥) → o ≡ AFCTL → l % 2 ≡ 1 → (v % 2 ≡ 1 → ⊥) → stepBytes g c m o l v ≡ storedBytes g c m o l v
+  unfolding stepBytes clearIf resetIf
+  resets-not n e h k = rw (starts-at o l v e, msac-not o l a n, h, ne-eqb (v % 2) 1 k)
+
+  pub resets-off : (o ≡ msacDword → ⊥) → o ≡ AFCTL → (l % 2 ≡ 1 → ⊥) → stepBytes g c m o l v ≡ storedBytes g c m o l v
+  unfolding stepBytes clearIf resetIf
+  resets-off n e h = rw (starts-at o l v e, msac-not o l a n, ne-eqb (l % 2) 1 h)
+
+  pub only-stores : (o ≡ msacDword → ⊥) → (o ≡ AFCTL → ⊥) → stepBytes g c m o l v ≡ storedBytes g c m o l v
+  unfolding stepBytes clearIf resetIf
+  only-stores n k = rw (starts-not o l v a k, msac-not o l a n)
+
+-- ---- the write-once fields
+
+-- the bytes of a field, its dword, and its lanes
+abbrev within : Field → ℕ → Bool
+within svid2 i = either (eqb i SVID2) (eqb i (SVID2 + 1))
+within sid2 i = either (eqb i SID2) (eqb i (SID2 + 1))
+within swsci15 i = eqb i (SWSCI + 1)
+
+abbrev pub dword : Field → ℕ
+dword svid2 = SVID2
+dword sid2 = SVID2
+dword swsci15 = SWSCI
+
+abbrev pub hit : Field → ℕ → ℕ
+hit svid2 l = l % 4
+hit sid2 l = l / 4
+hit swsci15 l = l / 2 % 2
+
+within-at : Field → ℕ → Bool
+within-at f i = same (ofField f i) (within f i)
+
+all-within : (f : Field) → T (allBelow 256 (within-at f))
+unfolding within-at ofField rows rowAt classOf
+all-within svid2 = tt
+all-within sid2 = tt
+all-within swsci15 = tt
+
+is-within : (f : Field) (i : ℕ) → i < 256 → ofField f i ≡ within f i
+unfolding within-at
+is-within f i h = same-eq (ofField f i) (within f i) (below 256 (within-at f) (all-within f) i h)
+
+touch-at : Field → ℕ → ℕ → Bool
+touch-at f d l = same (anyBelow 4 (λ (k : ℕ). both (eqb (bit l k) 1) (within f (d * 4 + k)))) (both (eqb (d * 4) (dword f)) (not (eqb (hit f l) 0)))
+
+all-touch : (f : Field) → T (allBelow 64 (λ (d : ℕ). allBelow 16 (touch-at f d)))
+unfolding touch-at
+all-touch svid2 = tt
+all-touch sid2 = tt
+all-touch swsci15 = tt
+
+touch-law : (f : Field) (d l : ℕ) → d < 64 → l < 16 → anyBelow 4 (λ (k : ℕ). both (eqb (bit l k) 1) (within f (d * 4 + k))) ≡ both (eqb (d * 4) (dword f)) (not (eqb (hit f l) 0))
+unfolding touch-at
+touch-law f d l h b = same-eq _ _ (below 16 (touch-at f d) (below 64 (λ (d : ℕ). allBelow 16 (touch-at f d)) (all-touch f) d h) l b)
+
+pub touches-is : (f : Field) (o l : ℕ) → o + 3 < 256 → o % 4 ≡ 0 → l < 16 → touches o l f ≡ both (eqb o (dword f)) (not (eqb (hit f l) 0))
+unfolding touches
+touches-is f o l h a b =
+    let e : o / 4 * 4 ≡ o = omega arith in
+    any-ext 4 (λ (k : ℕ). both (eqb (bit l k) 1) (ofField f (o + k))) (λ (k : ℕ). both (eqb (bit l k) 1) (within f (o + k))) (λ k j. rw (is-within f (o + k) (omega arith)))
+    ∙ subst (λ (x : ℕ). anyBelow 4 (λ (k : ℕ). both (eqb (bit l k) 1) (within f (x + k))) ≡ both (eqb x (dword f)) (not (eqb (hit f l) 0))) e (touch-law f (o / 4) l (omega arith) b)
+
+shut-pick : (a b : Bool) (was : ℕ) → pick a (pick b was 1) was ≡ pick (both a (not b)) 1 was
+shut-pick true true was = refl
+shut-pick true false was = refl
+shut-pick false b was = refl
+
+pub flag-is : (f : Field) (was o l : ℕ) → o + 3 < 256 → o % 4 ≡ 0 → l < 16 → shutOf was o (dword f) (hit f l) ≡ flagAfter o l f was
+unfolding shutOf
+flag-is f was o l h a b = shut-pick (eqb o (dword f)) (eqb (hit f l) 0) was ∙ ap (λ (t : Bool). pick t 1 was) (sym (touches-is f o l h a b))
