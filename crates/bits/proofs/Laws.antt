@@ -7,7 +7,7 @@ use native.Mathlib.Numerals.{one-add, add-one}
 use lib.Pow.{pow-pos, pow-mono, shr-shr, mod-pow-add}
 use lib.Bits.{bitAnd, bitOr, bitXor, differ, and-step, or-step, xor-step, and-shr, xor-shr, and-zero-l, or-zero-l}
 use mathlib.Core.Bool.{Bool, true, false}
-use lib.Dec.{ltb}
+use lib.Dec.{eqb, ltb}
 use borrow.Author.Tests.{lt-ltb, le-ltb, ltb-true, ltb-false}
 use Rattle.bits.specs.Choice.{pick}
 use Rattle.bits.specs.Bits.{bit, numberOf, little, pickBit, blendK}
@@ -79,7 +79,7 @@ unfolding blendK
 blend< zero m o n = omega arith
 blend< (suc k) m o n = omega (arith, two-pow-succ k, blend< k (m / 2) (o / 2) (n / 2), pick< (m % 2) (o % 2) (n % 2) (bit< o) (bit< n))
 
-shr-suc : (x i : ℕ) → x / 2 / 2 ^ i ≡ x / 2 ^ suc i
+pub shr-suc : (x i : ℕ) → x / 2 / 2 ^ i ≡ x / 2 ^ suc i
 shr-suc x i = shr-shr x 1 i ∙ ap (λ (e : ℕ). x / 2 ^ e) (one-add i)
 
 -- bit i of the blend: picked by the mask's bit i
@@ -90,6 +90,12 @@ blend-bit (suc k) m o n zero h = simp div-one (omega (arith, pick< (m % 2) (o % 
 blend-bit (suc k) m o n (suc i) h =
     let half : (blendK k (m / 2) (o / 2) (n / 2) * 2 + pickBit (m % 2) (o % 2) (n % 2)) / 2 ≡ blendK k (m / 2) (o / 2) (n / 2) = omega (arith, pick< (m % 2) (o % 2) (n % 2) (bit< o) (bit< n)) in
     simp (← shr-suc, half) (blend-bit k (m / 2) (o / 2) (n / 2) i (omega arith))
+
+-- a pick by a bit is a choice by the test whether it is 1
+pub pick-bit : (m x y : ℕ) → m < 2 → pickBit m x y ≡ pick (eqb m 1) y x
+pick-bit zero x y h = refl
+pick-bit (suc zero) x y h = refl
+pick-bit (suc (suc m)) x y h = omega arith
 
 pick-same : (m x : ℕ) → pickBit m x x ≡ x
 pick-same zero x = refl

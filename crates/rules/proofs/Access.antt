@@ -4,18 +4,26 @@ use mathlib.Core.Bool.{Bool, true, false, not}
 use Prim.Native.Nat.{ℕ, zero, suc, _+_, _-_, _/_, _%_, _^_, _<_, _≤_}
 use native.Mathlib.Omega.{arith}
 use lib.Dec.{T, eqb, leb, ltb, leb→le, ltb→lt}
-use borrow.Author.Tests.{ne-eqb, le-leb, lt-ltb, lt-leb}
+use borrow.Author.Tests.{ne-eqb, le-leb, lt-ltb, lt-leb, ltb-false, eqb-true, not-false}
 use Rattle.bits.specs.Bits.{bit, numberOf, byteOf}
 use Rattle.bits.specs.Choice.{pick, both, either, allBelow}
 use Rattle.bits.proofs.Laws.{number-bits, bit<2}
-use Rattle.bits.proofs.Below.{below, both-left, both-right, pick-has, other, false-unless}
+use Rattle.bits.proofs.Below.{below, both-left, both-right, pick-has, other, false-unless, either-left, either-right}
 use Rattle.map.specs.Registers.{GMADR, MSAC}
 use Rattle.map.specs.Class.{hasF, apertureBit, resetStart, sameClass}
 use Rattle.map.specs.Map.{rows, rowAt, classOf, defaultAt}
 use Rattle.rules.specs.declared.State.{State}
 use Rattle.rules.specs.declared.Closed.{Closed}
-use Rattle.rules.specs.Access.{byte, enabled, byteFor}
+use Rattle.rules.specs.Access.{byte, enabled, byteFor, badOffset}
 use Rattle.rules.specs.Guest.{leastExponent, exponentOf, takenBy, takes, store, clear, reset, starts, storedBit, sizeAfter, bitAfter}
+
+-- ---- an offset that is not refused
+
+pub good-offset : (o : ℕ) → badOffset o ≡ false → (o + 3 < 256) × (o % 4 ≡ 0)
+good-offset o e =
+    let small : o ≤ 255 = ltb-false 255 o (either-left (ltb 255 o) _ e) in
+    let even : o % 4 ≡ 0 = eqb-true (o % 4) 0 (not-false _ (either-right (ltb 255 o) _ e)) in
+    (omega arith, even)
 
 -- ---- what is enabled
 

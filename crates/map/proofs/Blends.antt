@@ -1,0 +1,17 @@
+-- A blend of two bytes under a mask of classes is a choice for each bit by its class.
+use mathlib.Core.Path.{_≡_, refl, _∙_}
+use mathlib.Core.Bool.{Bool, true, false}
+use Prim.Native.Nat.{ℕ, _<_}
+use Rattle.bits.specs.Bits.{bit, byteOf, pickBit, blendK}
+use Rattle.bits.specs.Choice.{pick, mark}
+use Rattle.bits.proofs.Laws.{number-ext, blend-number}
+use Rattle.map.specs.Class.{Class}
+use Rattle.map.specs.Map.{classOf, maskAt}
+use Rattle.map.proofs.Classes.{mask-bit}
+
+pick-mark : (b : Bool) (x y : ℕ) → pickBit (mark b) x y ≡ pick b y x
+pick-mark true x y = refl
+pick-mark false x y = refl
+
+pub blend-by : (f : Class → Bool) (i x y : ℕ) → blendK 8 (maskAt f i) x y ≡ byteOf (λ (j : ℕ). pick (f (classOf i j)) (bit y j) (bit x j))
+blend-by f i x y = blend-number 8 (maskAt f i) x y ∙ number-ext 8 (λ (j : ℕ). pickBit (bit (maskAt f i) j) (bit x j) (bit y j)) (λ (j : ℕ). pick (f (classOf i j)) (bit y j) (bit x j)) (λ j h. rw (mask-bit f i j h) (pick-mark (f (classOf i j)) (bit x j) (bit y j)))

@@ -1,0 +1,210 @@
+-- The guest write a byte at a time comes to the rule, bit by bit: for every state whose bytes are 256 bytes.
+use mathlib.Core.Path.{_≡_, refl, sym, ap, subst, _∙_}
+use mathlib.Core.List.{List}
+use mathlib.Core.Bool.{Bool, true, false, not}
+use Prim.Native.Nat.{ℕ, _+_, _*_, _/_, _%_, _^_, _<_, _≤_}
+use native.Mathlib.Omega.{arith}
+use native.Mathlib.Nat.{zero-add, add-zero, div-one}
+use lib.Dec.{T, eqb}
+use borrow.Author.Tests.{ne-eqb}
+use lib.ListN.{length, getD, set, length-set}
+use Rattle.bits.specs.Bits.{bit, numberOf, byteOf, pickBit, blendK}
+use Rattle.bits.specs.Choice.{pick, both, either, mark, allBelow}
+use Rattle.bits.specs.Places.{bytes, mapN}
+use Rattle.bits.proofs.Laws.{number-ext, bit-number, bit-zero, bit<2, pick-bit, blend-number}
+use Rattle.bits.proofs.Below.{below, same, same-eq, is-false, pick-has}
+use Rattle.bits.proofs.Places.{getD-bytes, length-bytes, as-bytes, length-mapN, getD-mapN, set-at, length-put4, put4-at}
+use Rattle.answer.specs.Refusals.{Reply, ok, no, OFFSET, LANES}
+use Rattle.map.specs.Registers.{GMADR, MSAC, AFCTL}
+use Rattle.map.specs.Class.{Class, readOnly, host, guest, guestF, once, sizeCode, aperture, power, computed, resetStart, stores, hasF, sameClass}
+use Rattle.map.specs.Map.{rows, rowAt, classOf, maskAt, guests, guestAt, defaultAt, resetAt}
+use Rattle.map.proofs.Classes.{mask-bit, guest-mask, reset-mask}
+use Rattle.map.proofs.Blends.{blend-by}
+use Rattle.rules.specs.declared.State.{State}
+use Rattle.rules.specs.declared.Closed.{Closed}
+use Rattle.rules.specs.Access.{byte, enabled, byteFor, badOffset, badLanes, Outcome, done, refused}
+use Rattle.rules.specs.Guest.{sizeOf, takenBy, takes, store, clear, reset, starts, storedBit, sizeAfter, bitAfter, closedAfter, stepOf, writeOf}
+use Rattle.rules.proofs.Access.{good-offset, enabled-at, byteFor-at, stored<2, clear<2, outside, not-within, no-aperture}
+use Rattle.writes.specs.Lanes.{takenMask, leaves, heldOf, ifEnabled, laneOf, laneAt, storedBytes, clearedBytes, resetByte, returned, resetBytes, clearIf, resetIf, stepBytes, Lent, lent, writeLanes}
+
+-- ---- the guest mask without the held bits is the mask of the bits that take what is written
+
+open-bit : (t : Bool) → pick (both true (not t)) 0 1 ≡ mark t
+open-bit true = refl
+open-bit false = refl
+
+takes-bit : (c : Closed) (code w : ℕ) (k : Class) → pick (leaves c code w k) 0 (mark (stores k)) ≡ mark (takes c code w k)
+unfolding takes
+takes-bit c code w readOnly = refl
+takes-bit c code w host = refl
+takes-bit c code w guest = refl
+takes-bit c code w guestF = refl
+takes-bit c code w (once f) = open-bit (takes c code w (once f))
+takes-bit c code w sizeCode = open-bit (takes c code w sizeCode)
+takes-bit c code w (aperture b) = open-bit (takes c code w (aperture b))
+takes-bit c code w power = open-bit (takes c code w power)
+takes-bit c code w computed = refl
+takes-bit c code w resetStart = refl
+
+open-mask : (c : Closed) (code w i : ℕ) → i < 256 → blendK 8 (heldOf c code w i) (guestAt i) 0 ≡ maskAt (takes c code w) i
+unfolding heldOf
+open-mask c code w i h =
+    ap (λ (g : ℕ). blendK 8 (maskAt (leaves c code w) i) g 0) (guest-mask i h) ∙ blend-by (leaves c code w) i (maskAt stores i) 0
+    ∙ number-ext 8 (λ (j : ℕ). pick (leaves c code w (classOf i j)) (bit 0 j) (bit (maskAt stores i) j)) (λ (j : ℕ). mark (takes c code w (classOf i j))) (λ j l. rw (bit-zero j, mask-bit stores i j l) (takes-bit c code w (classOf i j)))
+
+-- ---- the store
+
+store-byte : (e : Bool) (c : Closed) (code w i x : ℕ) → byteOf (λ (j : ℕ). store e c code w i j (bit x j)) ≡ blendK 8 (pick e (maskAt (takes c code w) i) 0) x w
+unfolding store
+store-byte true c code w i x = sym (blend-by (takes c code w) i x w)
+store-byte false c code w i x = number-ext 8 (bit x) (λ (j : ℕ). pickBit (bit 0 j) (bit x j) (bit w j)) (λ j h. rw (bit-zero j)) ∙ sym (blend-number 8 0 x w)
+
+module _ (s : State) (o l v : ℕ) (within : o + 3 < 256) where
+  abbrev after : ℕ → ℕ
+  after i = byteOf (storedBit s o l v i)
+
+  lane-byte : (k : ℕ) → k < 4 → laneAt guests (s .closed) (s .bytes) (o + k) (bit l k) (v / 256 ^ k % 256) ≡ after (o + k)
+  unfolding laneOf ifEnabled storedBit
+  lane-byte k h = sym (store-byte (enabled o l (o + k)) (s .closed) (sizeOf (byte s MSAC)) (byteFor o v (o + k)) (o + k) (byte s (o + k)) ∙ rw (enabled-at o l k h, byteFor-at o v k, open-mask (s .closed) (sizeOf (byte s MSAC)) (v / 256 ^ k % 256) (o + k) (omega arith)))
+
+  lane-0 : laneAt guests (s .closed) (s .bytes) o (l % 2) (v % 256) ≡ after o
+  lane-0 = simp (add-zero, div-one) at (lane-byte 0 (omega arith))
+
+  pub stored-list : length (s .bytes) ≡ 256 → ((i : ℕ) → byte s i < 2 ^ 8) → storedBytes guests (s .closed) (s .bytes) o l v ≡ bytes after
+  unfolding storedBytes
+  stored-list n b =
+      as-bytes _ after (length-put4 (s .bytes) o _ _ _ _ ∙ n)
+      (λ i h. put4-at (λ (x : ℕ). x ≡ after i) (s .bytes) o
+      (laneAt guests (s .closed) (s .bytes) o (l % 2) (v % 256)) (laneAt guests (s .closed) (s .bytes) (o + 1) (l / 2 % 2) (v / 256 % 256)) (laneAt guests (s .closed) (s .bytes) (o + 2) (l / 4 % 2) (v / 65536 % 256)) (laneAt guests (s .closed) (s .bytes) (o + 3) (l / 8 % 2) (v / 16777216 % 256))
+      i (rw n h)
+      (λ n0 n1 n2 n3. outside s o l v i (b i) (not-within o l i (λ x y. apart i n0 n1 n2 n3 x y)))
+      (λ e. lane-0 ∙ ap after (sym e))
+      (λ e. lane-byte 1 (omega arith) ∙ ap after (sym e))
+      (λ e. lane-byte 2 (omega arith) ∙ ap after (sym e))
+      (λ e. lane-byte 3 (omega arith) ∙ ap after (sym e)))
+    where
+      apart : (i : ℕ) → (i ≡ o → ⊥) → (i ≡ o + 1 → ⊥) → (i ≡ o + 2 → ⊥) → (i ≡ o + 3 → ⊥) → o ≤ i → i < o + 4 → ⊥
+      apart i n0 n1 n2 n3 x y = omega arith
+
+-- ---- bytes whose bits are f, with one place written
+
+-- 256 bytes F, one place changed: what then stands, byte by byte
+changed : (F G : ℕ → ℕ) (l : List ℕ) (at x : ℕ) → length l ≡ 256 → ((i : ℕ) → i < 256 → getD l i 0 ≡ F i) → x ≡ G at → ((i : ℕ) → i < 256 → (i ≡ at → ⊥) → F i ≡ G i) → set l at x ≡ bytes G
+changed F G l at x n d e k =
+    as-bytes (set l at x) G (length-set l at x ∙ n)
+    (λ i h. set-at (λ (y : ℕ). y ≡ G i) l at i x (rw n h) (λ ne. d i h ∙ k i h ne) (λ q. e ∙ ap G (sym q)))
+
+-- only bit 0 of AFCTL starts a function reset
+start-at : ℕ → Bool
+start-at i = allBelow 8 (λ (j : ℕ). same (sameClass (classOf i j) resetStart) (both (eqb i AFCTL) (eqb (bit 1 j) 1)))
+
+all-start : T (allBelow 256 start-at)
+unfolding start-at rows rowAt classOf
+all-start = tt
+
+start-is : (i j : ℕ) → i < 256 → j < 8 → sameClass (classOf i j) resetStart ≡ both (eqb i AFCTL) (eqb (bit 1 j) 1)
+unfolding start-at
+start-is i j h k = same-eq _ _ (below 8 (λ (j : ℕ). same (sameClass (classOf i j) resetStart) (both (eqb i AFCTL) (eqb (bit 1 j) 1))) (below 256 start-at all-start i h) j k)
+
+-- no bit of AFCTL has F
+afctl-plain : T (allBelow 8 (λ (j : ℕ). not (hasF (classOf AFCTL j))))
+unfolding rows rowAt classOf
+afctl-plain = tt
+
+module _ (f : ℕ → ℕ → ℕ) (b : (i j : ℕ) → f i j < 2) where
+  abbrev F : ℕ → ℕ
+  F i = byteOf (f i)
+
+  -- ---- the clearing by MSAC
+
+  module _ (code : ℕ) where
+    abbrev C : ℕ → ℕ
+    C i = byteOf (λ (j : ℕ). clear true code i j (f i j))
+
+    clear-at : blendK 8 (maskAt (takenBy code) (GMADR + 3)) (F (GMADR + 3)) 0 ≡ C (GMADR + 3)
+    unfolding clear
+    clear-at =
+        blend-by (takenBy code) (GMADR + 3) (F (GMADR + 3)) 0
+        ∙ number-ext 8 (λ (j : ℕ). pick (takenBy code (classOf (GMADR + 3) j)) (bit 0 j) (bit (F (GMADR + 3)) j)) (λ (j : ℕ). pick (takenBy code (classOf (GMADR + 3) j)) 0 (f (GMADR + 3) j)) (λ j h. rw (bit-zero j, bit-number 8 (f (GMADR + 3)) (b (GMADR + 3)) j h))
+
+    clear-other : (i : ℕ) → i < 256 → (i ≡ GMADR + 3 → ⊥) → F i ≡ C i
+    unfolding clear
+    clear-other i h n = number-ext 8 (f i) (λ (j : ℕ). pick (takenBy code (classOf i j)) 0 (f i j)) (λ j k. rw (no-aperture code i j h n k))
+
+  clear-list : clearedBytes (bytes F) ≡ bytes (C (sizeOf (F MSAC)))
+  unfolding clearedBytes takenMask
+  clear-list =
+      changed F (C (sizeOf (F MSAC))) (bytes F) (GMADR + 3) _ (length-bytes F) (getD-bytes F)
+      (rw (getD-bytes F MSAC (omega arith), getD-bytes F (GMADR + 3) (omega arith)) (clear-at (sizeOf (F MSAC))))
+      (clear-other (sizeOf (F MSAC)))
+
+  -- ---- the function reset
+
+  abbrev R : ℕ → ℕ
+  R i = byteOf (λ (j : ℕ). reset true i j (f i j))
+
+  -- F bits at their default
+  abbrev D : ℕ → ℕ
+  D i = byteOf (λ (j : ℕ). pick (hasF (classOf i j)) (bit (defaultAt i) j) (f i j))
+
+  returned-at : (i : ℕ) → i < 256 → getD (returned (bytes F)) i 0 ≡ D i
+  returned-at i h =
+      getD-mapN resetByte 256 0 (bytes F) i h (rw (length-bytes F) h) ∙ ap (λ (k : ℕ). resetByte k (getD (bytes F) i 0)) (zero-add i) ∙ ap (resetByte i) (getD-bytes F i h)
+      ∙ ap (λ (m : ℕ). blendK 8 m (F i) (defaultAt i)) (reset-mask i h) ∙ blend-by hasF i (F i) (defaultAt i)
+      ∙ number-ext 8 (λ (j : ℕ). pick (hasF (classOf i j)) (bit (defaultAt i) j) (bit (F i) j)) (λ (j : ℕ). pick (hasF (classOf i j)) (bit (defaultAt i) j) (f i j)) (λ j k. rw (bit-number 8 (f i) (b i) j k))
+
+  reset-other : (i : ℕ) → i < 256 → (i ≡ AFCTL → ⊥) → D i ≡ R i
+  unfolding reset
+  reset-other i h n = number-ext 8 (λ (j : ℕ). pick (hasF (classOf i j)) (bit (defaultAt i) j) (f i j)) (λ (j : ℕ). reset true i j (f i j)) (λ j k. rw (start-is i j h k, ne-eqb i AFCTL n))
+
+  reset-start : blendK 8 1 (D AFCTL) 0 ≡ R AFCTL
+  unfolding reset
+  reset-start =
+      blend-number 8 1 (D AFCTL) 0
+      ∙ number-ext 8 (λ (j : ℕ). pickBit (bit 1 j) (bit (D AFCTL) j) (bit 0 j)) (λ (j : ℕ). reset true AFCTL j (f AFCTL j))
+      (λ j k.
+      let plain : hasF (classOf AFCTL j) ≡ false = is-false _ (below 8 (λ (j : ℕ). not (hasF (classOf AFCTL j))) afctl-plain j k) in
+      let held : bit (D AFCTL) j ≡ f AFCTL j = bit-number 8 (λ (j : ℕ). pick (hasF (classOf AFCTL j)) (bit (defaultAt AFCTL) j) (f AFCTL j)) (λ j. pick-has (λ (x : ℕ). x < 2) (hasF (classOf AFCTL j)) (bit (defaultAt AFCTL) j) (f AFCTL j) (bit<2 (defaultAt AFCTL) j) (b AFCTL j)) j k ∙ rw plain in
+      rw (held, bit-zero j, plain, start-is AFCTL j (omega arith) k) (pick-bit (bit 1 j) (f AFCTL j) 0 (bit<2 1 j)))
+
+  reset-list : resetBytes (bytes F) ≡ bytes R
+  unfolding resetBytes
+  reset-list =
+      changed D R (returned (bytes F)) AFCTL _ (length-mapN 256 resetByte 0 (bytes F) ∙ length-bytes F) returned-at
+      (rw (returned-at AFCTL (omega arith)) reset-start) reset-other
+
+  pub clear-if : (e : Bool) → clearIf e (bytes F) ≡ bytes (λ (i : ℕ). byteOf (λ (j : ℕ). clear e (sizeOf (F MSAC)) i j (f i j)))
+  unfolding clearIf clear
+  clear-if true = clear-list
+  clear-if false = refl
+
+  pub reset-if : (e : Bool) → resetIf e (bytes F) ≡ bytes (λ (i : ℕ). byteOf (λ (j : ℕ). reset e i j (f i j)))
+  unfolding resetIf reset
+  reset-if true = reset-list
+  reset-if false = refl
+
+-- ---- the whole write
+
+module _ (s : State) (n : length (s .bytes) ≡ 256) (b : (i : ℕ) → byte s i < 2 ^ 8) where
+  pub step-list : (o l v : ℕ) → o + 3 < 256 → stepBytes guests (s .closed) (s .bytes) o l v ≡ bytes (λ (i : ℕ). byteOf (bitAfter s o l v i))
+  unfolding stepBytes bitAfter sizeAfter
+  step-list o l v h =
+      ap (λ (m : List ℕ). resetIf (starts o l v) (clearIf (enabled o l MSAC) m)) (stored-list s o l v h n b)
+      ∙ ap (resetIf (starts o l v)) (clear-if (storedBit s o l v) (stored<2 s o l v) (enabled o l MSAC))
+      ∙ reset-if (λ (i j : ℕ). clear (enabled o l MSAC) (sizeAfter s o l v) i j (storedBit s o l v i j)) (λ i j. clear<2 (enabled o l MSAC) (sizeAfter s o l v) i j _ (stored<2 s o l v i j)) (starts o l v)
+
+  -- the state that lent bytes and flags make, with the latch as it was
+  abbrev pub whole : Lent → Outcome
+  whole r = record { reply = r .reply; state = record { bytes = r .bytes; latch = s .latch; closed = r .closed } }
+
+  pub write-is : (o l v : ℕ) → whole (writeLanes guests (s .closed) (s .bytes) o l v) ≡ writeOf s o l v
+  unfolding writeLanes writeOf stepOf
+  write-is o l v = go (badOffset o) (badLanes l) refl
+    where
+      after : List ℕ
+      after = stepBytes guests (s .closed) (s .bytes) o l v
+
+      go : (x y : Bool) → badOffset o ≡ x → whole (pick x (lent (no OFFSET) (s .bytes) (s .closed)) (pick y (lent (no LANES) (s .bytes) (s .closed)) (lent (ok 0) after (closedAfter o l (s .closed))))) ≡ pick x (refused OFFSET s) (pick y (refused LANES s) (done (stepOf s o l v)))
+      go true y e = refl
+      go false true e = refl
+      go false false e = rw (step-list o l v (good-offset o e .0))
