@@ -10,7 +10,7 @@ use mathlib.Core.Bool.{Bool, true, false}
 use lib.Dec.{eqb, ltb}
 use borrow.Author.Tests.{lt-ltb, le-ltb, ltb-true, ltb-false}
 use Rattle.bits.specs.Choice.{pick}
-use Rattle.bits.specs.Bits.{bit, numberOf, little, pickBit, blendK}
+use Rattle.bits.specs.Bits.{bit, numberOf, little, joined, pickBit, blendK}
 
 -- one bit of each: the operators are the pick
 one-bit : (m o n : ℕ) → m < 2 → o < 2 → n < 2 → max (min o (differ 1 m)) (min n m) ≡ pickBit m o n
@@ -203,6 +203,10 @@ little-bits (suc n) f h =
     let up : numberOf (8 * n) (λ (b : ℕ). bit (f ((8 + b) / 8)) ((8 + b) % 8)) ≡ little n (λ (k : ℕ). f (suc k)) =
     number-ext (8 * n) (λ (b : ℕ). bit (f ((8 + b) / 8)) ((8 + b) % 8)) (λ (b : ℕ). bit (f (suc (b / 8))) (b % 8)) (λ b l. let q : (8 + b) / 8 ≡ suc (b / 8) = omega arith in let r : (8 + b) % 8 ≡ b % 8 = omega arith in rw (q, r)) ∙ little-bits n (λ (k : ℕ). f (suc k)) (λ k. h (suc k)) in
     ap (λ (w : ℕ). numberOf w (λ (b : ℕ). bit (f (b / 8)) (b % 8))) e ∙ number-split 8 (8 * n) (λ (b : ℕ). bit (f (b / 8)) (b % 8)) ∙ rw (low, up) (omega arith)
+
+pub joined-little : (f : ℕ → ℕ) → joined (f 0) (f 1) (f 2) (f 3) ≡ little 4 f
+unfolding little
+joined-little f = omega arith
 
 ltb-suc : (j l : ℕ) → ltb (suc j) (suc l) ≡ ltb j l
 ltb-suc j l = go (ltb j l) refl

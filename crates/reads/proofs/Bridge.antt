@@ -1,0 +1,90 @@
+-- The guest read a byte at a time comes to the rule, bit by bit: for every state whose bytes are bytes.
+use mathlib.Core.Path.{_≡_, refl, sym, ap, _∙_}
+use mathlib.Core.Bool.{Bool, true, false}
+use Prim.Native.Nat.{ℕ, _+_, _*_, _/_, _%_, _^_, _<_}
+use native.Mathlib.Omega.{arith}
+use native.Mathlib.Nat.{add-zero, div-one}
+use lib.Dec.{T, eqb, eqb→eq}
+use borrow.Author.Tests.{ltb-false}
+use lib.ListN.{getD}
+use Rattle.bits.specs.Bits.{bit, numberOf, little, pickBit, blendK}
+use Rattle.bits.specs.Choice.{pick, allBelow}
+use Rattle.bits.proofs.Laws.{number-ext, bit-number, bit-zero, bit<2, pick-bit, blend-number, little-bits, joined-little}
+use Rattle.bits.proofs.Below.{below, same, same-eq, pick-has}
+use Rattle.answer.specs.Refusals.{Reply, ok, no, OFFSET, LANES}
+use Rattle.map.specs.Registers.{CAPPOINT, CAPL}
+use Rattle.map.specs.Class.{computed, sameClass}
+use Rattle.map.specs.Map.{rows, rowAt, classOf}
+use Rattle.rules.specs.declared.State.{State}
+use Rattle.rules.specs.Access.{byte, badOffset, badLanes}
+use Rattle.rules.specs.Read.{pointer, readBit, undriven, readValue, readOf}
+use Rattle.rules.proofs.Access.{good-offset}
+use Rattle.reads.specs.Shown.{shownByte, shownDword, spreadOf, readLanes}
+
+-- ---- CAPPOINT is the computed byte
+
+computed-at : ℕ → Bool
+computed-at i = allBelow 8 (λ (j : ℕ). same (sameClass (classOf i j) computed) (eqb i CAPPOINT))
+
+all-computed : T (allBelow 256 computed-at)
+unfolding computed-at rows rowAt classOf
+all-computed = tt
+
+computed-is : (i j : ℕ) → i < 256 → j < 8 → sameClass (classOf i j) computed ≡ eqb i CAPPOINT
+unfolding computed-at
+computed-is i j h k = same-eq _ _ (below 8 (λ (j : ℕ). same (sameClass (classOf i j) computed) (eqb i CAPPOINT)) (below 256 computed-at all-computed i h) j k)
+
+-- ---- the mask of the lanes
+
+spread-at : ℕ → Bool
+spread-at l = allBelow 32 (λ (n : ℕ). eqb (bit (spreadOf l) n) (bit l (n / 8)))
+
+all-spread : T (allBelow 16 spread-at)
+unfolding spread-at spreadOf
+all-spread = tt
+
+spread-bit : (l n : ℕ) → l < 16 → n < 32 → bit (spreadOf l) n ≡ bit l (n / 8)
+unfolding spread-at
+spread-bit l n h k = eqb→eq _ _ (below 32 (λ (n : ℕ). eqb (bit (spreadOf l) n) (bit l (n / 8))) (below 16 spread-at all-spread l h) n k)
+
+-- ---- bytes and dwords
+
+chosen-bit : (e : Bool) (p x j : ℕ) → bit (pick e p x) j ≡ pick e (bit p j) (bit x j)
+chosen-bit true p x j = refl
+chosen-bit false p x j = refl
+
+module _ (s : State) (b : (i : ℕ) → byte s i < 2 ^ 8) where
+  shown-pointer : pick (eqb (getD (s .bytes) CAPL 0 % 2) 1) 0xD0 0x90 ≡ pointer s
+  unfolding pointer
+  shown-pointer = rw div-one
+
+  shown-bit : (i j : ℕ) → i < 256 → j < 8 → bit (shownByte (s .bytes) i) j ≡ readBit s i j
+  unfolding shownByte readBit
+  shown-bit i j h k = rw (shown-pointer, computed-is i j h k) (chosen-bit (eqb i CAPPOINT) (pointer s) (byte s i) j)
+
+  shown< : (i : ℕ) → shownByte (s .bytes) i < 2 ^ 8
+  unfolding shownByte
+  shown< i = pick-has (λ (x : ℕ). x < 2 ^ 8) (eqb i CAPPOINT) _ (byte s i) (pick-has (λ (x : ℕ). x < 2 ^ 8) (eqb (getD (s .bytes) CAPL 0 % 2) 1) 0xD0 0x90 (omega arith) (omega arith)) (b i)
+
+  -- bit n of a dword is bit n % 8 of its byte n / 8, as a guest reads it
+  pub dword-bit : (o n : ℕ) → o + 3 < 256 → n < 32 → bit (shownDword (s .bytes) o) n ≡ readBit s (o + n / 8) (n % 8)
+  unfolding shownDword
+  dword-bit o n h k =
+      let whole : shownDword (s .bytes) o ≡ numberOf 32 (λ (n : ℕ). bit (shownByte (s .bytes) (o + n / 8)) (n % 8)) = rw add-zero at (joined-little (λ (k : ℕ). shownByte (s .bytes) (o + k))) ∙ sym (little-bits 4 (λ (k : ℕ). shownByte (s .bytes) (o + k)) (λ k. shown< (o + k))) in
+      ap (λ (x : ℕ). bit x n) whole ∙ bit-number 32 (λ (n : ℕ). bit (shownByte (s .bytes) (o + n / 8)) (n % 8)) (λ n. bit<2 (shownByte (s .bytes) (o + n / 8)) (n % 8)) n k ∙ shown-bit (o + n / 8) (n % 8) (omega arith) (omega arith)
+
+  value-is : (o l : ℕ) → o + 3 < 256 → l < 16 → blendK 32 (spreadOf l) 0 (shownDword (s .bytes) o) ≡ readValue s o l
+  unfolding readValue
+  value-is o l h k =
+      blend-number 32 (spreadOf l) 0 (shownDword (s .bytes) o)
+      ∙ number-ext 32 (λ (n : ℕ). pickBit (bit (spreadOf l) n) (bit 0 n) (bit (shownDword (s .bytes) o) n)) (λ (n : ℕ). pick (eqb (bit l (n / 8)) 1) (readBit s (o + n / 8) (n % 8)) undriven)
+      (λ n j. rw (spread-bit l n k j, bit-zero n, dword-bit o n h j) (pick-bit (bit l (n / 8)) undriven (readBit s (o + n / 8) (n % 8)) (bit<2 l (n / 8))))
+
+  pub read-is : (o l : ℕ) → readLanes (s .bytes) o l ≡ readOf s o l
+  unfolding readLanes readOf
+  read-is o l = go (badOffset o) (badLanes l) refl refl
+    where
+      go : (x y : Bool) → badOffset o ≡ x → badLanes l ≡ y → pick x (no OFFSET) (pick y (no LANES) (ok (blendK 32 (spreadOf l) 0 (shownDword (s .bytes) o)))) ≡ pick x (no OFFSET) (pick y (no LANES) (ok (readValue s o l)))
+      go true y e d = refl
+      go false true e d = refl
+      go false false e d = rw (value-is o l (good-offset o e .0) (omega (arith, ltb-false 15 l d)))
