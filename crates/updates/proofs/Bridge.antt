@@ -7,7 +7,7 @@ use lib.Dec.{T, eqb, ltb}
 use lib.ListN.{length, length-set}
 use borrow.Author.Tests.{eq-eqb, ne-eqb, eqb-true, ltb-false}
 use Rattle.bits.specs.Bits.{bit, numberOf, byteOf, pickBit, blendK}
-use Rattle.bits.specs.Choice.{pick, both, anyBelow, _is_}
+use Rattle.bits.specs.Choice.{pick, both, _is_}
 use Rattle.bits.specs.Places.{bytes}
 use Rattle.bits.proofs.Laws.{number-ext, number-bits, bit-number, bit-zero, bit<2, blend-number}
 use Rattle.bits.proofs.Below.{pick-has, any-none, none-any}

@@ -13,7 +13,13 @@ fn put_host(m: &mut [u8; 256], i: usize, mask: u8, value: u8)
 }
 
 // A host update of the byte at `offset`: refused where the mask has a bit outside the host mask.
-pub fn host_update(m: &mut [u8; 256], host: &[u8; 256], offset: u32, mask: u8, value: u8) -> HostAnswer
+pub fn host_update(
+    m: &mut [u8; 256],
+    host: &[u8; 256],
+    offset: u32,
+    mask: u8,
+    value: u8,
+) -> HostAnswer
     ensures { λ r. ⌜ updated r (now (m .exit)) ≡ updateBytes (now (host .entry)) (now (m .entry)) offset mask value ⌝ }
 {
     if 255 < offset {

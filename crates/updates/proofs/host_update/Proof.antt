@@ -1,6 +1,6 @@
 -- A host update over lent bytes: refusals 5 and 7 in order, else the masked bits.
-use mathlib.Core.Path.{sym}
-use Rattle.bits.proofs.Tests.{tests}
+use native.Mathlib.Omega.{arith}
+use borrow.Author.Tests.{eq-eqb, ne-eqb, lt-ltb, le-ltb}
 use Rattle.updates.specs.Update.{updateBytes}
 use borrow.Author.Needs.{needs}
 use Rattle.updates.proofs.host_update.Statement.{statement}
@@ -8,7 +8,7 @@ use Rattle.updates.proofs.host_update.Tie as tie
 
 returns : tie.Need-returns
 unfolding updateBytes
-returns c = search tests
+returns c = rw (lt-ltb 255 (c .before .args .offset) (omega arith))
 
 element-copy-out-blend : tie.Need-element-copy-out-blend
 element-copy-out-blend c = search needs
@@ -18,14 +18,18 @@ blend-requires c κs = search needs
 
 returns-2 : tie.Need-returns-2
 unfolding updateBytes
-returns-2 c = search (tests, sym (c .before .blend .ensures))
+returns-2 c =
+    let b = c .before in
+    rw (le-ltb 255 (b .before .before .before .args .offset) (omega arith), ← b .blend .ensures, ne-eqb (b .blend .result) 0 (λ e. omega arith))
 
 put-host-requires : tie.Need-put-host-requires
 put-host-requires c κs = search needs
 
 returns-3 : tie.Need-returns-3
 unfolding updateBytes
-returns-3 c = search (tests, c .put-host .ensures, sym (c .before .before .before .blend .ensures))
+returns-3 c =
+    let b = c .before .before .before in
+    rw (le-ltb 255 (b .before .before .before .args .offset) (omega arith), ← b .blend .ensures, eq-eqb (b .blend .result) 0 (omega arith), c .put-host .ensures)
 
 pub host-update-spec : {M : Type 1} → statement M
 host-update-spec =

@@ -1,0 +1,15 @@
+-- The fresh state: defaults, fields open, latch 0.
+use Rattle.rules.specs.Fresh.{freshOf}
+use borrow.Author.Needs.{needs}
+use Rattle.twin.proofs.fresh.Statement.{statement}
+use Rattle.twin.proofs.fresh.Tie as tie
+
+all-defaults-requires : tie.Need-all-defaults-requires
+all-defaults-requires c κs = search needs
+
+returns : tie.Need-returns
+unfolding freshOf
+returns c = cc
+
+pub fresh-spec : {M : Type 1} → statement M
+fresh-spec = tie.close (tie.spec all-defaults-requires returns)

@@ -1,0 +1,68 @@
+// The twin's entries over a state by value: guest read and write, host update, platform reset.
+ghost use mathlib.Core.Path.{_≡_};
+ghost use Rattle.rules.specs.Guest.{writeOf};
+ghost use Rattle.rules.specs.Read.{readOf};
+ghost use Rattle.rules.specs.Host.{hostOf};
+ghost use Rattle.rules.specs.Fresh.{freshOf};
+ghost use Rattle.rules.specs.Answers.{readSays, wrote, updated};
+use rules::Closed;
+use rules::ReadAnswer;
+use rules::State;
+use rules::Updated;
+use rules::Written;
+
+// The enabled bytes of the dword at `offset`.
+pub fn read(s: State, offset: u32, lanes: u32) -> ReadAnswer
+    ensures { λ r. ⌜ readSays r ≡ readOf s offset lanes ⌝ }
+{
+    let t = s;
+    reads::read(&t.bytes, offset, lanes)
+}
+
+// A guest write of the enabled bytes of `value` to the dword at `offset`; the function reset that it may start is performed within it.
+pub fn write(s: State, offset: u32, lanes: u32, value: u32) -> Written
+    ensures { λ r. ⌜ wrote r ≡ writeOf s offset lanes value ⌝ }
+{
+    let guest = map::all_guests();
+    let mut t = s;
+    let c = t.closed;
+    let w = writes::write(&mut t.bytes, &guest, c, offset, lanes, value);
+    let answer = w.answer;
+    let after = w.closed;
+    t.closed = after;
+    Written { answer, state: t }
+}
+
+// The device's own change of the bits under `mask`, in the byte at `offset`.
+pub fn host_update(s: State, offset: u32, mask: u8, value: u8) -> Updated
+    ensures { λ r. ⌜ updated r ≡ hostOf s offset mask value ⌝ }
+{
+    let host = map::all_hosts();
+    let mut t = s;
+    let answer = updates::host_update(&mut t.bytes, &host, offset, mask, value);
+    Updated { answer, state: t }
+}
+
+// The state from which everything starts.
+pub fn fresh() -> State
+    ensures { λ r. ⌜ r ≡ freshOf ⌝ }
+{
+    let bytes = map::all_defaults();
+    let closed = Closed {
+        svid2: 0,
+        sid2: 0,
+        swsci15: 0,
+    };
+    State {
+        bytes,
+        latch: 0,
+        closed,
+    }
+}
+
+// A platform reset returns everything to the fresh state.
+pub fn platform_reset(_s: State) -> State
+    ensures { λ r. ⌜ r ≡ freshOf ⌝ }
+{
+    fresh()
+}
