@@ -1,7 +1,7 @@
 -- A host update over lent bytes: refusals 5 and 7 in order, else the masked bits.
 use native.Mathlib.Omega.{arith}
 use borrow.Author.Tests.{eq-eqb, ne-eqb, lt-ltb, le-ltb}
-use Rattle.updates.specs.Update.{updateBytes}
+use Rattle.updates.specs.Update.{outside, updateBytes}
 use borrow.Author.Needs.{needs}
 use Rattle.updates.proofs.host_update.Statement.{statement}
 use Rattle.updates.proofs.host_update.Tie as tie
@@ -19,8 +19,8 @@ blend-requires c κs = search needs
 returns-2 : tie.Need-returns-2
 unfolding updateBytes
 returns-2 c =
-    let b = c .before in
-    rw (le-ltb 255 (b .before .before .before .args .offset) (omega arith), ← b .blend .ensures, ne-eqb (b .blend .result) 0 (λ e. omega arith))
+    let a = c .before .before .before .before .args in
+    rw (le-ltb 255 (a .offset) (omega arith), ne-eqb (outside (a .host .now) (a .offset) (a .mask)) 0 (λ e. omega arith))
 
 put-host-requires : tie.Need-put-host-requires
 put-host-requires c κs = search needs
@@ -28,8 +28,8 @@ put-host-requires c κs = search needs
 returns-3 : tie.Need-returns-3
 unfolding updateBytes
 returns-3 c =
-    let b = c .before .before .before in
-    rw (le-ltb 255 (b .before .before .before .args .offset) (omega arith), ← b .blend .ensures, eq-eqb (b .blend .result) 0 (omega arith), c .put-host .ensures)
+    let a = c .before .before .before .before .before .before .args in
+    rw (le-ltb 255 (a .offset) (omega arith), eq-eqb (outside (a .host .now) (a .offset) (a .mask)) 0 (omega arith), c .put-host .ensures)
 
 pub host-update-spec : {M : Type 1} → statement M
 host-update-spec =

@@ -15,7 +15,7 @@ element-write-m c = search needs
 
 returns : tie.Need-returns
 unfolding hostedBytes
-returns c = cc
+returns c = rw (c .blend .ensures)
 
 pub put-host-spec : {M : Type 1} → statement M
 put-host-spec = tie.close (tie.spec element-copy-out-blend blend-requires element-write-m returns)

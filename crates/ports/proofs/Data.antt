@@ -1,0 +1,89 @@
+-- What a port access comes to: the latch that a write leaves, the bytes that a read takes out of a dword, and which accesses are data.
+use mathlib.Core.Path.{_≡_, refl, subst, sym, ap, _∙_}
+use mathlib.Core.Bool.{Bool, true, false, not}
+use Prim.Native.Nat.{ℕ, zero, suc, _+_, _-_, _*_, _/_, _%_, _^_, _<_, _≤_}
+use native.Mathlib.Omega.{arith}
+use native.Mathlib.Nat.{pow-suc}
+use lib.Dec.{T, eqb, leb, ltb}
+use lib.ListN.{getD}
+use lib.Pow.{pow-add}
+use borrow.Author.Tests.{leb-true, not-false, le-ltb, eq-eqb}
+use Rattle.bits.specs.Bits.{bit, field, numberOf, pickBit, blendK}
+use Rattle.bits.specs.Choice.{pick, both, either, mark, allBelow}
+use Rattle.bits.proofs.Laws.{number-ext, number-part, number<, bit-zero, bit<2, pick-bit, blend-number}
+use Rattle.bits.proofs.Below.{below, same, same-eq, either-left, mark<2}
+use Rattle.rules.specs.declared.State.{State}
+use Rattle.rules.specs.Access.{byte, badOffset, badLanes, Outcome, done}
+use Rattle.rules.specs.Guest.{stepOf, writeOf}
+use Rattle.rules.specs.Read.{readBit}
+use Rattle.rules.specs.Ports.{DATA, atLatch, atData, notOurs, latchBit, latchOf, dwordOf, portLanes, portValue}
+use Rattle.reads.specs.Shown.{shownDword}
+use Rattle.reads.proofs.Bridge.{dword-bit}
+use Rattle.ports.specs.Part.{partOf}
+
+-- ---- the latch
+
+-- bits 31, 23:2
+abbrev pub latchMask : ℕ
+latchMask = 0x80FFFFFC
+
+abbrev dropped : ℕ → Bool
+dropped n = either (both (leb 24 n) (leb n 30)) (ltb n 2)
+
+all-latch : T (allBelow 32 (λ (n : ℕ). same (eqb (bit latchMask n) 1) (not (dropped n))))
+all-latch = tt
+
+pick-not : (b : Bool) (x y : ℕ) → pick (not b) x y ≡ pick b y x
+pick-not true x y = refl
+pick-not false x y = refl
+
+pub latch-is : (v : ℕ) → blendK 32 latchMask 0 v ≡ latchOf v
+unfolding latchOf
+latch-is v =
+    blend-number 32 latchMask 0 v
+    ∙ number-ext 32 (λ (n : ℕ). pickBit (bit latchMask n) (bit 0 n) (bit v n)) (latchBit v)
+    (λ n h. rw (bit-zero n, pick-bit (bit latchMask n) 0 (bit v n) (bit<2 latchMask n), same-eq (eqb (bit latchMask n) 1) (not (dropped n)) (below 32 (λ (n : ℕ). same (eqb (bit latchMask n) 1) (not (dropped n))) all-latch n h)) (pick-not (dropped n) (bit v n) 0))
+
+-- ---- which accesses are data
+
+both-true : (a b : Bool) → both a b ≡ true → (a ≡ true) × (b ≡ true)
+both-true true b e = (refl, e)
+both-true false b e = absurd (subst T (sym e) tt)
+
+-- not refused and not the latch: data, which lies within CFCh to CFFh
+pub data-access : (latch p w : ℕ) → notOurs latch p w ≡ false → atLatch p w ≡ false → (DATA ≤ p) × (p + w ≤ 0xD00)
+unfolding notOurs
+data-access latch p w e n =
+    let t : atData p w ≡ true = not-false (atData p w) (either-left (not (atData p w)) _ (rw n at e)) in
+    let f = both-true (leb DATA p) (leb (p + w) 0xD00) t in
+    (leb-true DATA p (f .0), leb-true (p + w) 0xD00 (f .1))
+
+-- ---- a read
+
+pow-256 : (a : ℕ) → 256 ^ a ≡ 2 ^ (8 * a)
+pow-256 zero = refl
+pow-256 (suc a) =
+    let e : 8 * suc a ≡ 8 * a + 8 = omega arith in
+    rw (pow-suc 256 a, pow-256 a, e, pow-add 2 (8 * a) 8)
+
+-- w bytes from byte a of a dword are those that a guest reads
+pub part-is : (s : State) → ((i : ℕ) → byte s i < 2 ^ 8) → (o a w : ℕ) → o + 3 < 256 → a + w ≤ 4 → partOf (shownDword (s .bytes) o) a w ≡ portValue s (o + a) w
+unfolding portValue
+part-is s b o a w h k =
+    rw (pow-256 a, pow-256 w) (sym (number-part (8 * w) (8 * a) (shownDword (s .bytes) o)))
+    ∙ number-ext (8 * w) (λ (n : ℕ). bit (shownDword (s .bytes) o) (8 * a + n)) (λ (n : ℕ). readBit s (o + a + n / 8) (n % 8))
+    (λ n l.
+    let e : o + (8 * a + n) / 8 ≡ o + a + n / 8 = omega arith in
+    let r : (8 * a + n) % 8 ≡ n % 8 = omega arith in
+    dword-bit s b o (8 * a + n) h (omega arith) ∙ rw (e, r))
+
+-- ---- a write
+
+pub lanes<16 : (a w : ℕ) → portLanes a w < 16
+unfolding portLanes
+lanes<16 a w = number< 4 (λ (k : ℕ). mark (both (leb a k) (ltb k (a + w)))) (λ k. mark<2 (both (leb a k) (ltb k (a + w))))
+
+-- a write to a dword with lanes below 16 is not refused
+pub accepted : (s : State) (o l v : ℕ) → o < 256 → o % 4 ≡ 0 → l < 16 → writeOf s o l v ≡ done (stepOf s o l v)
+unfolding writeOf
+accepted s o l v h e k = rw (le-ltb 255 o (omega arith), eq-eqb (o % 4) 0 e, le-ltb 15 l (omega arith))
