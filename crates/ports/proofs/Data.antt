@@ -16,10 +16,11 @@ use Rattle.rules.specs.declared.State.{State}
 use Rattle.rules.specs.Access.{byte, badOffset, badLanes, Outcome, done}
 use Rattle.rules.specs.Guest.{stepOf, writeOf}
 use Rattle.rules.specs.Read.{readBit}
-use Rattle.rules.specs.Ports.{DATA, atLatch, atData, notOurs, latchBit, latchOf, dwordOf, portLanes, portValue}
+use Rattle.rules.specs.Ports.{DATA, badWidth, atLatch, atData, notOurs, latchBit, latchOf, dwordOf, portLanes, placed, portValue}
 use Rattle.reads.specs.Shown.{shownDword}
 use Rattle.reads.proofs.Bridge.{dword-bit}
-use Rattle.ports.specs.Part.{partOf}
+use Rattle.ports.specs.Part.{Width, partOf}
+use Rattle.ports.proofs.Widths.{some, good-width}
 
 -- ---- the latch
 
@@ -50,13 +51,22 @@ both-true : (a b : Bool) → both a b ≡ true → (a ≡ true) × (b ≡ true)
 both-true true b e = (refl, e)
 both-true false b e = absurd (subst T (sym e) tt)
 
--- not refused and not the latch: data, which lies within CFCh to CFFh
-pub data-access : (latch p w : ℕ) → notOurs latch p w ≡ false → atLatch p w ≡ false → (DATA ≤ p) × (p + w ≤ 0xD00)
+-- w bytes within CFCh to CFFh
+pub record Within (p w : ℕ) : Type 0 where
+  pub width : Width w
+  pub room : p % 4 + w ≤ 4
+  pub lane : p - DATA ≡ p % 4
+
+-- not refused and not the latch
+pub data-access : (latch p w : ℕ) → badWidth w ≡ false → notOurs latch p w ≡ false → atLatch p w ≡ false → Within p w
 unfolding notOurs
-data-access latch p w e n =
+data-access latch p w g e n =
     let t : atData p w ≡ true = not-false (atData p w) (either-left (not (atData p w)) _ (rw n at e)) in
     let f = both-true (leb DATA p) (leb (p + w) 0xD00) t in
-    (leb-true DATA p (f .0), leb-true (p + w) 0xD00 (f .1))
+    let from : DATA ≤ p = leb-true DATA p (f .0) in
+    let to : p + w ≤ 0xD00 = leb-true (p + w) 0xD00 (f .1) in
+    let least : 1 ≤ w = some w (good-width w g) in
+    record { width = good-width w g; room = omega arith; lane = omega arith }
 
 -- ---- a read
 
@@ -77,13 +87,21 @@ part-is s b o a w h k =
     let r : (8 * a + n) % 8 ≡ n % 8 = omega arith in
     dword-bit s b o (8 * a + n) h (omega arith) ∙ rw (e, r))
 
+pub port-part : (s : State) → ((i : ℕ) → byte s i < 2 ^ 8) → (latch p w : ℕ) → Within p w → partOf (shownDword (s .bytes) (latch / 4 % 64 % 64 * 4)) (p % 4) w ≡ portValue s (dwordOf latch + (p - DATA)) w
+port-part s b latch p w d =
+    let e : latch / 4 % 64 % 64 * 4 ≡ latch / 4 % 64 * 4 = omega arith in
+    rw (e, d .lane) (part-is s b (latch / 4 % 64 * 4) (p % 4) w (omega arith) (d .room))
+
 -- ---- a write
 
-pub lanes<16 : (a w : ℕ) → portLanes a w < 16
+lanes<16 : (a w : ℕ) → portLanes a w < 16
 unfolding portLanes
 lanes<16 a w = number< 4 (λ (k : ℕ). mark (both (leb a k) (ltb k (a + w)))) (λ k. mark<2 (both (leb a k) (ltb k (a + w))))
 
 -- a write to a dword with lanes below 16 is not refused
-pub accepted : (s : State) (o l v : ℕ) → o < 256 → o % 4 ≡ 0 → l < 16 → writeOf s o l v ≡ done (stepOf s o l v)
+accepted : (s : State) (o l v : ℕ) → o < 256 → o % 4 ≡ 0 → l < 16 → writeOf s o l v ≡ done (stepOf s o l v)
 unfolding writeOf
 accepted s o l v h e k = rw (le-ltb 255 o (omega arith), eq-eqb (o % 4) 0 e, le-ltb 15 l (omega arith))
+
+pub port-step : (s : State) (latch p w v : ℕ) → Within p w → writeOf s (latch / 4 % 64 * 4) (portLanes (p % 4) w) (placed v (p % 4) w) ≡ done (stepOf s (dwordOf latch) (portLanes (p - DATA) w) (placed v (p - DATA) w))
+port-step s latch p w v d = rw (d .lane) (accepted s (latch / 4 % 64 * 4) (portLanes (p % 4) w) (placed v (p % 4) w) (omega arith) (omega arith) (lanes<16 (p % 4) w))
