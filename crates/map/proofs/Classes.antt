@@ -8,10 +8,11 @@ use lib.Dec.{T, eqb, leb, ltb, leb→le}
 use Rattle.bits.specs.Bits.{bit}
 use Rattle.bits.specs.Choice.{both, mark, allBelow, if_then_else_, _is_, _≤?_}
 use Rattle.bits.proofs.Laws.{bit-number}
-use Rattle.bits.proofs.Below.{below, both-left, both-right, mark<2}
+use Rattle.bits.proofs.Below.{below, both-left, both-right, both-off, mark<2}
+use borrow.Author.Tests.{le-ltb}
 use Rattle.bits.proofs.Places.{getD-bytes}
 use Rattle.map.specs.Class.{Class, readOnly, host, guest, guestF, once, sizeCode, aperture, power, computed, resetStart, stores, isHost, hasF}
-use Rattle.map.specs.Map.{Part, Rule, Row, rows, rowAt, rowIn, has, classOf, defaultIn, maskAt, defaults, guests, hosts, resets, defaultAt, guestAt, hostAt, resetAt}
+use Rattle.map.specs.Map.{Part, Rule, Row, row, read-only, rows, rowAt, rowIn, has, classOf, defaultIn, maskAt, defaults, guests, hosts, resets, defaultAt, guestAt, hostAt, resetAt}
 
 -- ---- a mask's bit is set exactly if the class of the bit passes
 
@@ -123,3 +124,22 @@ fits at (r ∷ rs) = both (leb at (r .at)) (both (ltb (r .default) (256 ^ r .siz
 pub rows-fit : T (fits 0 rows)
 unfolding rows
 rows-fit = tt
+
+-- ---- a byte past the last has no row, so its bits are read-only
+
+ends : (at : ℕ) (rs : List Row) → T (fits at rs) → at ≤ 256
+ends at [] t = leb→le at 256 t
+ends at (r ∷ rs) t =
+    let from : at ≤ r .at = leb→le at (r .at) (both-left (leb at (r .at)) _ t) in
+    let to : r .at + r .size ≤ 256 = ends (r .at + r .size) rs (both-right (parts-fit (r .size) (r .rule)) _ (both-right (ltb (r .default) (256 ^ r .size)) _ (both-right (leb at (r .at)) _ t))) in
+    omega arith
+
+no-row : (at : ℕ) (rs : List Row) → T (fits at rs) → (i : ℕ) → 256 ≤ i → rowIn rs i ≡ row i 1 0 read-only
+no-row at [] t i h = refl
+no-row at (r ∷ rs) t i h =
+    let rest : T (fits (r .at + r .size) rs) = both-right (parts-fit (r .size) (r .rule)) _ (both-right (ltb (r .default) (256 ^ r .size)) _ (both-right (leb at (r .at)) _ t)) in
+    rw (le-ltb i (r .at + r .size) (omega (arith, ends (r .at + r .size) rs rest)), both-off (leb (r .at) i)) (no-row (r .at + r .size) rs rest i h)
+
+pub past-the-map : (i j : ℕ) → 256 ≤ i → classOf i j ≡ readOnly
+unfolding classOf rowAt
+past-the-map i j h = rw (no-row 0 rows rows-fit i h)

@@ -11,6 +11,7 @@ use rules::PortWritten;
 use rules::State;
 
 const ADDRESS: u16 = 0xCF8;
+
 const DATA: u16 = 0xCFC;
 
 // ---- which access
@@ -220,7 +221,12 @@ pub fn port_write(s: State, port: u16, width: u32, value: u32) -> PortWritten
         };
     }
     let a = (port % 4) as u32;
-    let w = twin::write(s, latch / 4 % 64 * 4, lanes(a, width), place(value, a, width));
+    let w = twin::write(
+        s,
+        latch / 4 % 64 * 4,
+        lanes(a, width),
+        place(value, a, width),
+    );
     let t = w.state;
     PortWritten {
         answer: PortWriteAnswer::Done,

@@ -24,7 +24,12 @@ fn dword_at(m: &[u8; 256], o: usize) -> u32
     requires { ⌜ o + 3 < 256 ⌝ }
     ensures { λ r. ⌜ r ≡ shownDword (now (m .entry)) o ⌝ }
 {
-    bits::join(shown(m, o), shown(m, o + 1), shown(m, o + 2), shown(m, o + 3))
+    bits::join(
+        shown(m, o),
+        shown(m, o + 1),
+        shown(m, o + 2),
+        shown(m, o + 3),
+    )
 }
 
 // The dword of number `d`, counted modulo 64, as a guest reads it.

@@ -17,7 +17,7 @@ use Rattle.rules.specs.declared.Closed.{Closed}
 use Rattle.rules.specs.Access.{enabled, byteFor}
 use Rattle.rules.specs.Guest.{starts, ofField, touches, flagAfter}
 use Rattle.rules.proofs.Access.{not-within}
-use Rattle.writes.specs.Lanes.{storedBytes, clearedBytes, resetBytes, clearIf, resetIf, stepBytes, shutOf}
+use Rattle.writes.specs.Bytes.{storedBytes, clearedBytes, resetBytes, clearIf, resetIf, stepBytes, shutOf}
 
 -- ---- MSAC and AFCTL
 

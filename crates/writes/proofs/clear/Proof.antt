@@ -1,5 +1,5 @@
 -- The aperture bits that the size code takes are cleared.
-use Rattle.writes.specs.Lanes.{clearedBytes}
+use Rattle.writes.specs.Bytes.{clearedBytes}
 use borrow.Author.Needs.{needs}
 use Rattle.writes.proofs.clear.Statement.{statement}
 use Rattle.writes.proofs.clear.Tie as tie

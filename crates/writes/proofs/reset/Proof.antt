@@ -7,7 +7,7 @@ use native.Mathlib.Numerals.{add-one}
 use native.Mathlib.Nat.{zero-add}
 use Rattle.bits.specs.Places.{mapN}
 use Rattle.bits.proofs.Places.{mapN-step}
-use Rattle.writes.specs.Lanes.{resetByte, resetBytes}
+use Rattle.writes.specs.Bytes.{resetByte, resetBytes}
 use Rattle.writes.proofs.reset.Statement.{statement}
 use Rattle.writes.proofs.reset.Tie as tie
 

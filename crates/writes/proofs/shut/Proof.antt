@@ -1,6 +1,6 @@
 -- A flag after a write.
 use Rattle.bits.proofs.Tests.{tests}
-use Rattle.writes.specs.Lanes.{shutOf}
+use Rattle.writes.specs.Bytes.{shutOf}
 use Rattle.writes.proofs.shut.Statement.{statement}
 use Rattle.writes.proofs.shut.Tie as tie
 

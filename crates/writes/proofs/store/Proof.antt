@@ -1,5 +1,5 @@
 -- The four bytes of a dword.
-use Rattle.writes.specs.Lanes.{storedBytes}
+use Rattle.writes.specs.Bytes.{storedBytes}
 use borrow.Author.Needs.{needs}
 use Rattle.writes.proofs.store.Statement.{statement}
 use Rattle.writes.proofs.store.Tie as tie

@@ -1,6 +1,6 @@
 -- A guest write over lent bytes: refusals 5 and 6 in order, else the step.
 use Rattle.bits.proofs.Tests.{tests}
-use Rattle.writes.specs.Lanes.{writeLanes}
+use Rattle.writes.specs.Bytes.{writeLanes}
 use borrow.Author.Needs.{needs}
 use Rattle.writes.proofs.write.Statement.{statement}
 use Rattle.writes.proofs.write.Tie as tie

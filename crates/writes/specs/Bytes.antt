@@ -1,0 +1,81 @@
+-- A guest write a byte at a time, as the code makes it; proofs/Bridge.antt shows that it comes to the rules.
+use mathlib.Core.List.{List}
+use mathlib.Core.Bool.{Bool, true, false}
+use Prim.Native.Nat.{ℕ, _+_, _/_, _%_}
+use lib.ListN.{getD, set}
+use Rattle.bits.specs.Bits.{blendK}
+use Rattle.bits.specs.Choice.{if_then_else_, _is_}
+use Rattle.bits.specs.Places.{mapN, put4Of}
+use Rattle.answer.specs.Refusals.{Reply, ok, no, OFFSET, LANES}
+use Rattle.map.specs.Registers.{GMADR, MSAC, AFCTL}
+use Rattle.map.specs.Map.{resetAt, defaultAt}
+use Rattle.rules.specs.declared.Closed.{Closed}
+use Rattle.rules.specs.Access.{enabled, badOffset, badLanes}
+use Rattle.rules.specs.Guest.{sizeOf, starts, closedAfter}
+use Rattle.rules.specs.Answers.{writeSays}
+use Rattle.lanes.specs.Lane.{takenMask, laneOf}
+use Rattle.writes.specs.declared.Wrote.{Wrote}
+
+-- ---- the store
+
+abbrev pub laneAt : List ℕ → Closed → List ℕ → ℕ → ℕ → ℕ → ℕ
+laneAt guest c m i on w = laneOf c (sizeOf (getD m MSAC 0)) i on (getD guest i 0) (getD m i 0) w
+
+unfoldable pub storedBytes : List ℕ → Closed → List ℕ → ℕ → ℕ → ℕ → List ℕ
+storedBytes guest c m o l v =
+    put4Of m o
+    (laneAt guest c m o (l % 2) (v % 256))
+    (laneAt guest c m (o + 1) (l / 2 % 2) (v / 256 % 256))
+    (laneAt guest c m (o + 2) (l / 4 % 2) (v / 65536 % 256))
+    (laneAt guest c m (o + 3) (l / 8 % 2) (v / 16777216 % 256))
+
+-- ---- MSAC's clearing, and the function reset
+
+unfoldable pub clearedBytes : List ℕ → List ℕ
+clearedBytes m = set m (GMADR + 3) (blendK 8 (takenMask (sizeOf (getD m MSAC 0))) (getD m (GMADR + 3) 0) 0)
+
+abbrev pub resetByte : ℕ → ℕ → ℕ
+resetByte i x = blendK 8 (resetAt i) x (defaultAt i)
+
+abbrev pub returned : List ℕ → List ℕ
+returned m = mapN 256 resetByte 0 m
+
+unfoldable pub resetBytes : List ℕ → List ℕ
+resetBytes m = set (returned m) AFCTL (blendK 8 1 (getD (returned m) AFCTL 0) 0)
+
+unfoldable pub clearIf : Bool → List ℕ → List ℕ
+clearIf true m = clearedBytes m
+clearIf false m = m
+
+unfoldable pub resetIf : Bool → List ℕ → List ℕ
+resetIf true m = resetBytes m
+resetIf false m = m
+
+unfoldable pub stepBytes : List ℕ → Closed → List ℕ → ℕ → ℕ → ℕ → List ℕ
+stepBytes guest c m o l v = resetIf (starts o l v) (clearIf (enabled o l MSAC) (storedBytes guest c m o l v))
+
+-- ---- the write-once fields
+
+-- a flag after a write at o, for a field in the dword at; hit: its lanes
+unfoldable pub shutOf : ℕ → ℕ → ℕ → ℕ → ℕ
+shutOf was o at hit = if o is at then (if hit is 0 then was else 1) else was
+
+-- ---- the entry
+
+-- what is said, and bytes and flags afterwards
+pub record Lent : Type 0 where
+  pub reply : Reply
+  pub bytes : List ℕ
+  pub closed : Closed
+
+abbrev pub lent : Reply → List ℕ → Closed → Lent
+lent r m c = record { reply = r; bytes = m; closed = c }
+
+abbrev pub wrote : Wrote → List ℕ → Lent
+wrote r m = lent (writeSays (r .answer)) m (r .closed)
+
+unfoldable pub writeLanes : List ℕ → Closed → List ℕ → ℕ → ℕ → ℕ → Lent
+writeLanes guest c m o l v =
+    if badOffset o then lent (no OFFSET) m c
+    else if badLanes l then lent (no LANES) m c
+    else lent (ok 0) (stepBytes guest c m o l v) (closedAfter o l c)
