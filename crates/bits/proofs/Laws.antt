@@ -4,8 +4,8 @@ use Prim.Native.Nat.{ℕ, zero, suc, _+_, _-_, _*_, _/_, _%_, _^_, _<_, _≤_, m
 use native.Mathlib.Omega.{arith}
 use native.Mathlib.Nat.{two-pow-succ, div-one, mod-one, zero-div, zero-add, suc-add, mul-add}
 use native.Mathlib.Numerals.{one-add, add-one}
-use lib.Pow.{pow-pos, pow-mono, shr-shr, mod-pow-add}
-use lib.Bits.{bitAnd, bitOr, bitXor, differ, and-step, or-step, xor-step, and-shr, xor-shr, and-zero-l, or-zero-l}
+use lib.Pow.{pow-pos, shr-shr, mod-pow-add}
+use lib.Bits.{bitAnd, bitOr, bitXor, differ, and-step, or-step, xor-step, and-shr, xor-shr}
 use mathlib.Core.Bool.{Bool, true, false}
 use lib.Dec.{eqb, ltb}
 use borrow.Author.Tests.{lt-ltb, le-ltb, ltb-true, ltb-false}
@@ -130,6 +130,12 @@ unfolding numberOf
 number-ext zero f g e = refl
 number-ext (suc k) f g e = rw (number-ext k (λ (j : ℕ). f (suc j)) (λ (j : ℕ). g (suc j)) (λ j h. e (suc j) (omega arith)), e 0 (omega arith))
 
+-- no bit set
+pub number-none : (k : ℕ) → numberOf k (λ (j : ℕ). 0) ≡ 0
+unfolding numberOf
+number-none zero = refl
+number-none (suc k) = rw (number-none k)
+
 -- a number is what its bits make
 pub number-bits : (k x : ℕ) → x < 2 ^ k → numberOf k (bit x) ≡ x
 unfolding numberOf
@@ -178,6 +184,10 @@ pub number-split : (a b : ℕ) (f : ℕ → ℕ) → numberOf (a + b) f ≡ numb
 unfolding numberOf
 number-split zero b f = simp zero-add (omega arith)
 number-split (suc a) b f = simp (suc-add, number-split a b (λ (j : ℕ). f (suc j)), two-pow-succ, mul-add) (omega arith)
+
+-- bit i of the half is the next bit up
+pub bit-half : (x i : ℕ) → bit (x / 2) i ≡ bit x (suc i)
+bit-half x i = ap (λ (n : ℕ). n % 2) (shr-suc x i)
 
 -- the low k bits of x
 pub number-mod : (k x : ℕ) → numberOf k (bit x) ≡ x % 2 ^ k

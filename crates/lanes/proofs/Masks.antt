@@ -1,6 +1,6 @@
 -- The guest bits that a write leaves: at the bytes of the special rules by their tests, none elsewhere.
-use mathlib.Core.Path.{_≡_, refl, sym, ap, subst, _∙_}
-use mathlib.Core.Bool.{Bool, true, false, not}
+use mathlib.Core.Path.{_≡_, refl, sym, ap, _∙_}
+use mathlib.Core.Bool.{Bool, true, false}
 use Prim.Native.Nat.{ℕ, _+_, _*_, _/_, _%_, _<_, _≤_}
 use native.Mathlib.Omega.{arith}
 use native.Mathlib.Nat.{div-one}
@@ -8,11 +8,11 @@ use native.Mathlib.Decide.{ℕ-discrete}
 use lib.Dec.{T, eqb, ltb}
 use borrow.Author.Tests.{ne-eqb, ltb-true, ltb-false}
 use Rattle.bits.specs.Bits.{field, numberOf}
-use Rattle.bits.specs.Choice.{pick, both, either, mark, allBelow}
-use Rattle.bits.proofs.Laws.{number-ext}
+use Rattle.bits.specs.Choice.{pick, either, mark, allBelow}
+use Rattle.bits.proofs.Laws.{number-ext, number-none}
 use Rattle.bits.proofs.Below.{below, other}
 use Rattle.map.specs.Registers.{GMADR, SVID2, SID2, MSAC, PMCS, SWSCI}
-use Rattle.map.specs.Class.{Class, readOnly, host, guest, guestF, once, sizeCode, aperture, power, computed, resetStart, stores}
+use Rattle.map.specs.Class.{Class, readOnly, host, guest, guestF, once, sizeCode, aperture, power, computed, resetStart}
 use Rattle.map.specs.Map.{rows, rowAt, classOf}
 use Rattle.map.proofs.Classes.{past-the-map}
 use Rattle.rules.specs.declared.Closed.{Closed}
@@ -133,19 +133,15 @@ all-plain : T (allBelow 256 plain-at)
 unfolding plain-at special rows rowAt classOf
 all-plain = tt
 
-zeros : numberOf 8 (λ (j : ℕ). 0) ≡ 0
-unfolding numberOf
-zeros = refl
-
 inner-other : (c : Closed) (code w i : ℕ) → i < 256 → special i ≡ false → heldOf c code w i ≡ 0
 unfolding heldOf plain-at
 inner-other c code w i h e =
     let t : T (allBelow 8 (λ (j : ℕ). plain (classOf i j))) = other (special i) _ e (below 256 plain-at all-plain i h) in
-    number-ext 8 (λ (j : ℕ). mark (leaves c code w (classOf i j))) (λ (j : ℕ). 0) (λ j l. ap mark (plain-leaves c code w (classOf i j) (below 8 (λ (j : ℕ). plain (classOf i j)) t j l))) ∙ zeros
+    number-ext 8 (λ (j : ℕ). mark (leaves c code w (classOf i j))) (λ (j : ℕ). 0) (λ j l. ap mark (plain-leaves c code w (classOf i j) (below 8 (λ (j : ℕ). plain (classOf i j)) t j l))) ∙ number-none 8
 
 past-other : (c : Closed) (code w i : ℕ) → 256 ≤ i → heldOf c code w i ≡ 0
 unfolding heldOf
-past-other c code w i h = number-ext 8 (λ (j : ℕ). mark (leaves c code w (classOf i j))) (λ (j : ℕ). 0) (λ j l. rw (past-the-map i j h)) ∙ zeros
+past-other c code w i h = number-ext 8 (λ (j : ℕ). mark (leaves c code w (classOf i j))) (λ (j : ℕ). 0) (λ j l. rw (past-the-map i j h)) ∙ number-none 8
 
 pub at-other : (c : Closed) (code w i : ℕ) → (i ≡ GMADR + 3 → ⊥) → (i / 2 ≡ SVID2 / 2 → ⊥) → (i / 2 ≡ SID2 / 2 → ⊥) → (i ≡ SWSCI + 1 → ⊥) → (i ≡ MSAC → ⊥) → (i ≡ PMCS → ⊥) → heldOf c code w i ≡ 0
 unfolding special

@@ -1,7 +1,7 @@
 -- A blend of two bytes under a mask of classes is a choice for each bit by its class.
 use mathlib.Core.Path.{_≡_, refl, _∙_}
 use mathlib.Core.Bool.{Bool, true, false}
-use Prim.Native.Nat.{ℕ, _<_}
+use Prim.Native.Nat.{ℕ}
 use Rattle.bits.specs.Bits.{bit, byteOf, pickBit, blendK}
 use Rattle.bits.specs.Choice.{pick, mark}
 use Rattle.bits.proofs.Laws.{number-ext, blend-number}

@@ -1,18 +1,18 @@
 -- The map gives each of the 2,048 bits one class, and the tables say what the classes say.
 use mathlib.Core.Path.{_≡_, refl, _∙_, ap}
 use mathlib.Core.List.{List, [], _∷_}
-use mathlib.Core.Bool.{Bool, true, false}
-use Prim.Native.Nat.{ℕ, _+_, _-_, _*_, _/_, _%_, _<_, _≤_, _^_}
+use mathlib.Core.Bool.{Bool, true}
+use Prim.Native.Nat.{ℕ, _+_, _-_, _*_, _<_, _≤_, _^_}
 use native.Mathlib.Omega.{arith}
-use lib.Dec.{T, eqb, leb, ltb, leb→le}
+use lib.Dec.{T, leb, ltb, leb→le}
 use Rattle.bits.specs.Bits.{bit}
-use Rattle.bits.specs.Choice.{both, mark, allBelow, if_then_else_, _is_, _≤?_}
+use Rattle.bits.specs.Choice.{both, mark, allBelow, if_then_else_, _is_}
 use Rattle.bits.proofs.Laws.{bit-number}
 use Rattle.bits.proofs.Below.{below, both-left, both-right, both-off, mark<2}
 use borrow.Author.Tests.{le-ltb}
 use Rattle.bits.proofs.Places.{getD-bytes}
 use Rattle.map.specs.Class.{Class, readOnly, host, guest, guestF, once, sizeCode, aperture, power, computed, resetStart, stores, isHost, hasF}
-use Rattle.map.specs.Map.{Part, Rule, Row, row, read-only, rows, rowAt, rowIn, has, classOf, defaultIn, maskAt, defaults, guests, hosts, resets, defaultAt, guestAt, hostAt, resetAt}
+use Rattle.map.specs.Map.{Rule, Row, row, read-only, rows, rowAt, rowIn, has, classOf, defaultIn, maskAt, defaults, guests, hosts, resets, defaultAt, guestAt, hostAt, resetAt}
 
 -- ---- a mask's bit is set exactly if the class of the bit passes
 

@@ -1,13 +1,13 @@
 -- The paper's table 'The register map': a row a register, in the paper's order; from it the class of each of the 2,048 bits, and the tables.
 use mathlib.Core.List.{List, [], _∷_, _++_}
-use mathlib.Core.Bool.{Bool, true, false}
+use mathlib.Core.Bool.{Bool}
 use Prim.Native.Nat.{ℕ, _+_, _-_, _*_, _/_, _%_, _^_}
 use lib.ListN.{getD}
 use Rattle.bits.specs.Bits.{bit, byteOf}
 use Rattle.bits.specs.Choice.{if_then_else_, _and_, _is_, _≤?_, _<?_, mark}
 use Rattle.bits.specs.Places.{bytes}
 use Rattle.map.specs.Registers.{VID2, DID2, PCICMD2, PCISTS2, RID2, CC, GTTMMADR, GMADR, IOBAR, SVID2, SID2, CAPPOINT, INTRLINE, INTRPIN, CAPID0, CAPCTRL0, CAPID0-A, CAPID0-B, MGGC0, DEVEN0, BDSM, HSRW, MSAC, VTD-STATUS, CAPL, MSI-CAPID, MC, MA, MD, AFCIDNP, AFLC, AFCTL, PMCAPID, PMCAP, PMCS, SWSMI, GSE, SWSCI, ASLS}
-use Rattle.map.specs.Class.{Field, svid2, sid2, swsci15, Class, readOnly, host, guest, guestF, once, sizeCode, aperture, power, computed, resetStart, stores, isHost, hasF}
+use Rattle.map.specs.Class.{svid2, sid2, swsci15, Class, readOnly, host, guest, guestF, once, sizeCode, aperture, power, computed, resetStart, stores, isHost, hasF}
 
 -- ---- rules
 

@@ -1,19 +1,18 @@
 -- What a port access comes to: the latch that a write leaves, the bytes that a read takes out of a dword, and which accesses are data.
-use mathlib.Core.Path.{_≡_, refl, subst, sym, ap, _∙_}
+use mathlib.Core.Path.{_≡_, refl, subst, sym, _∙_}
 use mathlib.Core.Bool.{Bool, true, false, not}
 use Prim.Native.Nat.{ℕ, zero, suc, _+_, _-_, _*_, _/_, _%_, _^_, _<_, _≤_}
 use native.Mathlib.Omega.{arith}
 use native.Mathlib.Nat.{pow-suc}
 use lib.Dec.{T, eqb, leb, ltb}
-use lib.ListN.{getD}
 use lib.Pow.{pow-add}
 use borrow.Author.Tests.{leb-true, not-false, le-ltb, eq-eqb}
-use Rattle.bits.specs.Bits.{bit, field, numberOf, pickBit, blendK}
+use Rattle.bits.specs.Bits.{bit, pickBit, blendK}
 use Rattle.bits.specs.Choice.{pick, both, either, mark, allBelow}
 use Rattle.bits.proofs.Laws.{number-ext, number-part, number<, bit-zero, bit<2, pick-bit, blend-number}
 use Rattle.bits.proofs.Below.{below, same, same-eq, either-left, mark<2}
 use Rattle.rules.specs.declared.State.{State}
-use Rattle.rules.specs.Access.{byte, badOffset, badLanes, Outcome, done}
+use Rattle.rules.specs.Access.{byte, done}
 use Rattle.rules.specs.Guest.{stepOf, writeOf}
 use Rattle.rules.specs.Read.{readBit}
 use Rattle.rules.specs.Ports.{DATA, badWidth, atLatch, atData, notOurs, latchBit, latchOf, dwordOf, portLanes, placed, portValue}

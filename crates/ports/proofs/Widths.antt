@@ -1,15 +1,15 @@
 -- w bytes from byte a of a dword: they fit, and they are what the rules place and take, once over the width.
-use mathlib.Core.Path.{_≡_, refl, subst, sym, ap, _∙_}
+use mathlib.Core.Path.{_≡_, refl, subst, sym}
 use mathlib.Core.Logic.{⊎-elim, _⊎_, inl, inr}
 use mathlib.Core.Bool.{Bool, true, false, not}
-use Prim.Native.Nat.{ℕ, _+_, _-_, _*_, _/_, _%_, _^_, _<_, _≤_}
+use Prim.Native.Nat.{ℕ, _+_, _^_, _<_, _≤_}
 use native.Mathlib.Nat.{mod-lt, one-le-pow, mul-lt-mul-of-pos-right, lt-of-lt-of-le, pow-le-pow-right}
 use native.Mathlib.Omega.{arith}
-use lib.Dec.{T, eqb, leb, ltb, eqb→eq}
+use lib.Dec.{T, eqb}
 use lib.Pow.{pow-add}
 use borrow.Author.Tests.{eqb-true, not-false}
 use Rattle.bits.specs.Choice.{either}
-use Rattle.ports.specs.Part.{Width, partOf}
+use Rattle.ports.specs.Part.{Width}
 use Rattle.rules.specs.Ports.{badWidth, placed}
 
 pub some : (w : ℕ) → Width w → 1 ≤ w

@@ -1,6 +1,5 @@
 // The port pair CF8h and CFCh, over a state by value.
 ghost use mathlib.Core.Path.{_≡_};
-ghost use mathlib.Core.Bool.{Bool};
 ghost use Prim.Native.Nat.{_+_, _%_, _^_, _<_, _≤_};
 ghost use Rattle.rules.specs.Ports.{badWidth, atLatch, atData, notOurs, otherFunction, latchOf, portLanes, placed, portReadOf, portWriteOf};
 ghost use Rattle.rules.specs.Answers.{portReadSays, portWrote};

@@ -1,16 +1,13 @@
 -- The number of trailing zeros is the place of the lowest one: the bit there is 1, and every bit below it is 0.
-use mathlib.Core.Path.{_≡_, refl, sym, ap, _∙_}
+use mathlib.Core.Path.{_≡_, refl, sym, _∙_}
 use Prim.Native.Nat.{ℕ, zero, suc, _+_, _*_, _/_, _%_, _^_, _<_}
 use native.Mathlib.Omega.{arith}
 use native.Mathlib.Nat.{div-one, mod-one}
-use native.Mathlib.Numerals.{one-add, add-one}
-use lib.Pow.{shr-shr, mod-pow-add}
+use native.Mathlib.Numerals.{add-one}
+use lib.Pow.{mod-pow-add}
 use lib.Count.{trailingZeros, under}
 use Rattle.bits.specs.Bits.{bit}
-
--- bit i of the half is the next bit up
-bit-half : (m i : ℕ) → bit (m / 2) i ≡ bit m (suc i)
-bit-half m i = ap (λ (x : ℕ). x % 2) (shr-shr m 1 i ∙ ap (λ (e : ℕ). m / 2 ^ e) (one-add i))
+use Rattle.bits.proofs.Laws.{bit-half}
 
 -- the k + 1 lowest bits: the k lowest of the half, and the lowest
 mod-half : (k m : ℕ) → m % 2 ^ suc k ≡ m / 2 % 2 ^ k * 2 + m % 2

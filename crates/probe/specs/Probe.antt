@@ -1,5 +1,4 @@
 -- The size probe ('Claims, probe, walk').
-use mathlib.Core.Bool.{Bool}
 use Prim.Native.Nat.{ℕ, _+_, _*_, _/_, _^_}
 use lib.Count.{trailingZeros}
 use Rattle.bits.specs.Bits.{bit, field}

@@ -1,17 +1,17 @@
 -- The guest read a byte at a time comes to the rule, bit by bit: for every state whose bytes are bytes.
 use mathlib.Core.Path.{_≡_, refl, sym, ap, _∙_}
 use mathlib.Core.Bool.{Bool, true, false}
-use Prim.Native.Nat.{ℕ, _+_, _*_, _/_, _%_, _^_, _<_}
+use Prim.Native.Nat.{ℕ, _+_, _/_, _%_, _^_, _<_}
 use native.Mathlib.Omega.{arith}
 use native.Mathlib.Nat.{add-zero, div-one}
 use lib.Dec.{T, eqb, eqb→eq}
 use borrow.Author.Tests.{ltb-false}
 use lib.ListN.{getD}
-use Rattle.bits.specs.Bits.{bit, numberOf, little, pickBit, blendK}
+use Rattle.bits.specs.Bits.{bit, numberOf, pickBit, blendK}
 use Rattle.bits.specs.Choice.{pick, allBelow}
 use Rattle.bits.proofs.Laws.{number-ext, bit-number, bit-zero, bit<2, pick-bit, blend-number, little-bits, joined-little}
 use Rattle.bits.proofs.Below.{below, same, same-eq, pick-has}
-use Rattle.answer.specs.Refusals.{Reply, ok, no, OFFSET, LANES}
+use Rattle.answer.specs.Refusals.{ok, no, OFFSET, LANES}
 use Rattle.map.specs.Registers.{CAPPOINT, CAPL}
 use Rattle.map.specs.Class.{computed, sameClass}
 use Rattle.map.specs.Map.{rows, rowAt, classOf}

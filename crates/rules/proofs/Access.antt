@@ -1,12 +1,12 @@
 -- Laws of an access and of one bit: what is enabled, that a bit stays a bit, that only byte 3 of GMADR has bits that a size code takes.
-use mathlib.Core.Path.{_≡_, refl, sym, subst}
+use mathlib.Core.Path.{_≡_, sym}
 use mathlib.Core.Bool.{Bool, true, false, not}
-use Prim.Native.Nat.{ℕ, zero, suc, _+_, _-_, _/_, _%_, _^_, _<_, _≤_}
+use Prim.Native.Nat.{ℕ, _+_, _-_, _/_, _%_, _^_, _<_, _≤_}
 use native.Mathlib.Omega.{arith}
 use lib.Dec.{T, eqb, leb, ltb, leb→le, ltb→lt}
 use borrow.Author.Tests.{ne-eqb, le-leb, lt-ltb, lt-leb, ltb-false, eqb-true, not-false}
 use Rattle.bits.specs.Bits.{bit, numberOf, byteOf}
-use Rattle.bits.specs.Choice.{pick, both, either, allBelow}
+use Rattle.bits.specs.Choice.{pick, either, allBelow}
 use Rattle.bits.proofs.Laws.{number-bits, bit<2}
 use Rattle.bits.proofs.Below.{below, both-left, both-right, pick-has, other, false-unless, either-left, either-right}
 use Rattle.map.specs.Registers.{GMADR, MSAC}
@@ -15,7 +15,7 @@ use Rattle.map.specs.Map.{rows, rowAt, classOf, defaultAt}
 use Rattle.rules.specs.declared.State.{State}
 use Rattle.rules.specs.declared.Closed.{Closed}
 use Rattle.rules.specs.Access.{byte, enabled, byteFor, badOffset}
-use Rattle.rules.specs.Guest.{leastExponent, exponentOf, takenBy, takes, store, clear, reset, starts, storedBit, sizeAfter, bitAfter}
+use Rattle.rules.specs.Guest.{leastExponent, takenBy, takes, store, clear, reset, starts, storedBit, sizeAfter, bitAfter}
 
 -- ---- an offset that is not refused
 

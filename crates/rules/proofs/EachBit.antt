@@ -1,7 +1,7 @@
 -- For every state, access and bit: what the bit holds afterwards, and what a read gives of it.
-use mathlib.Core.Path.{_≡_, refl, sym, ap, _∙_}
+use mathlib.Core.Path.{_≡_, refl, ap, _∙_}
 use mathlib.Core.Bool.{Bool, true, false, not}
-use Prim.Native.Nat.{ℕ, _+_, _*_, _/_, _%_, _^_, _<_, _≤_}
+use Prim.Native.Nat.{ℕ, _+_, _/_, _%_, _<_}
 use native.Mathlib.Omega.{arith}
 use lib.Dec.{eqb, ltb}
 use Rattle.bits.specs.Bits.{bit, byteOf}
@@ -13,7 +13,7 @@ use Rattle.bits.proofs.Places.{getD-bytes}
 use Rattle.map.specs.Class.{computed, sameClass}
 use Rattle.map.specs.Map.{classOf}
 use Rattle.rules.specs.declared.State.{State}
-use Rattle.rules.specs.Access.{byte, badOffset, badLanes, Outcome, done, refused}
+use Rattle.rules.specs.Access.{byte, badOffset, badLanes, done, refused}
 use Rattle.rules.specs.Guest.{bitAfter, stepOf, writeOf}
 use Rattle.rules.specs.Read.{pointer, readBit, undriven, readValue}
 use Rattle.rules.specs.Host.{notHost, hostBit, hostStepOf, hostOf}

@@ -1,6 +1,5 @@
 -- Each promise fixes one answer and one state: any two results that meet it agree.
-use mathlib.Core.Path.{_≡_, refl, ap}
-use mathlib.Core.Bool.{Bool}
+use mathlib.Core.Path.{_≡_, refl}
 use Prim.Native.Nat.{ℕ}
 use Rattle.bits.specs.Choice.{if_then_else_, _is_}
 use Rattle.answer.specs.Refusals.{Reply, WIDTH, NOT-OURS, OFFSET}
@@ -26,7 +25,7 @@ use Rattle.rules.specs.Guest.{writeOf}
 use Rattle.rules.specs.Read.{readOf}
 use Rattle.rules.specs.Host.{hostOf}
 use Rattle.rules.specs.Ports.{portReadOf, portWriteOf}
-use Rattle.rules.specs.Claims.{Window, Claimed, unclaimed, claimed, translation, aperture, io, memoryClaimOf, ioClaimOf}
+use Rattle.rules.specs.Claims.{Claimed, unclaimed, claimed, translation, aperture, io, memoryClaimOf, ioClaimOf}
 use Rattle.rules.specs.Answers.{readSays, writeSays, hostSays, portReadSays, portWriteSays, claimSays, wrote, updated, portWrote}
 
 -- ---- what is said is heard again

@@ -1,5 +1,4 @@
 -- The paper's number and values of each answer ('Refusal numbers'), case by case.
-use Prim.Native.Nat.{ℕ}
 use Rattle.answer.specs.Refusals.{Reply, ok, no, WIDTH, NOT-OURS, OTHER-FUNCTION, OFFSET, LANES, NOT-HOST}
 use Rattle.rules.specs.declared.ReadAnswer.{ReadAnswer}
 use Rattle.rules.specs.declared.ReadAnswer.the-variants as R

@@ -1,5 +1,5 @@
 -- Address claims ('Claims, probe, walk').
-use mathlib.Core.Bool.{Bool, not}
+use mathlib.Core.Bool.{Bool}
 use Prim.Native.Nat.{ℕ, _+_, _/_, _%_, _^_}
 use Rattle.bits.specs.Bits.{bit, field, numberOf}
 use Rattle.bits.specs.Choice.{if_then_else_, _is_, _<?_}

@@ -1,5 +1,4 @@
 -- A guest read, bit by bit ('How a bit behaves').
-use mathlib.Core.Bool.{Bool}
 use Prim.Native.Nat.{ℕ, _+_, _/_, _%_}
 use Rattle.bits.specs.Bits.{bit, numberOf}
 use Rattle.bits.specs.Choice.{if_then_else_, _is_}

@@ -6,11 +6,11 @@ use native.Mathlib.Omega.{arith}
 use lib.Dec.{T, eqb, ltb}
 use lib.ListN.{length, length-set}
 use borrow.Author.Tests.{eq-eqb, ne-eqb, eqb-true, ltb-false}
-use Rattle.bits.specs.Bits.{bit, numberOf, byteOf, pickBit, blendK}
+use Rattle.bits.specs.Bits.{bit, byteOf, pickBit, blendK}
 use Rattle.bits.specs.Choice.{pick, both, _is_}
 use Rattle.bits.specs.Places.{bytes}
-use Rattle.bits.proofs.Laws.{number-ext, number-bits, bit-number, bit-zero, bit<2, blend-number}
-use Rattle.bits.proofs.Below.{pick-has, any-none, none-any}
+use Rattle.bits.proofs.Laws.{number-ext, number-bits, bit-number, bit-zero, bit<2, blend-number, pick-bit, number-none}
+use Rattle.bits.proofs.Below.{both-off, pick-has, any-none, none-any}
 use Rattle.bits.proofs.Places.{set-at, as-bytes}
 use Rattle.map.specs.Class.{isHost}
 use Rattle.map.specs.Map.{classOf, hosts}
@@ -30,17 +30,9 @@ none-out false zero h e = refl
 none-out false (suc zero) h e = absurd (subst T e tt)
 none-out false (suc (suc x)) h e = omega arith
 
-both-false : (b : Bool) → both b false ≡ false
-both-false true = refl
-both-false false = refl
-
 out-none : (host : Bool) (x : ℕ) → pick host 0 x ≡ 0 → both (eqb x 1) (not host) ≡ false
-out-none true x e = both-false (eqb x 1)
+out-none true x e = both-off (eqb x 1)
 out-none false x e = rw e
-
-zeros : numberOf 8 (λ (j : ℕ). 0) ≡ 0
-unfolding numberOf
-zeros = refl
 
 module _ (o mask : ℕ) (h : o < 256) where
   -- bit j of the mask, where it is not the host's
@@ -61,7 +53,7 @@ module _ (o mask : ℕ) (h : o < 256) where
 
   none-outside : notHost o mask ≡ false → outside hosts o mask ≡ 0
   unfolding notHost
-  none-outside e = outside-byte ∙ number-ext 8 out (λ (j : ℕ). 0) (λ j k. none-out (isHost (classOf o j)) (bit mask j) (bit<2 mask j) (any-none 8 (λ (j : ℕ). both (eqb (bit mask j) 1) (not (isHost (classOf o j)))) e j k)) ∙ zeros
+  none-outside e = outside-byte ∙ number-ext 8 out (λ (j : ℕ). 0) (λ j k. none-out (isHost (classOf o j)) (bit mask j) (bit<2 mask j) (any-none 8 (λ (j : ℕ). both (eqb (bit mask j) 1) (not (isHost (classOf o j)))) e j k)) ∙ number-none 8
 
   -- a bit is left outside exactly if the mask has a bit outside the host mask
   pub outside-is : not (outside hosts o mask is 0) ≡ notHost o mask
@@ -73,11 +65,6 @@ module _ (o mask : ℕ) (h : o < 256) where
       go false false p q = sym (eq-eqb _ _ (none-outside q)) ∙ p
 
 -- ---- the bytes afterwards
-
-pick-bit : (m x y : ℕ) → m < 2 → pickBit m x y ≡ pick (eqb m 1) y x
-pick-bit zero x y h = refl
-pick-bit (suc zero) x y h = refl
-pick-bit (suc (suc m)) x y h = omega arith
 
 module _ (s : State) (n : length (s .bytes) ≡ 256) (b : (i : ℕ) → byte s i < 2 ^ 8) where
   pub hosted-list : (o mask v : ℕ) → hostedBytes (s .bytes) o mask v ≡ bytes (λ (i : ℕ). byteOf (hostBit s o mask v i))

@@ -1,29 +1,28 @@
 -- The guest write a byte at a time comes to the rule, bit by bit: for every state whose bytes are 256 bytes.
-use mathlib.Core.Path.{_≡_, refl, sym, ap, subst, _∙_}
+use mathlib.Core.Path.{_≡_, refl, sym, ap, _∙_}
 use mathlib.Core.List.{List}
 use mathlib.Core.Bool.{Bool, true, false, not}
-use Prim.Native.Nat.{ℕ, _+_, _*_, _/_, _%_, _^_, _<_, _≤_}
+use Prim.Native.Nat.{ℕ, _+_, _/_, _%_, _^_, _<_, _≤_}
 use native.Mathlib.Omega.{arith}
 use native.Mathlib.Nat.{zero-add, add-zero, div-one}
 use lib.Dec.{T, eqb}
 use borrow.Author.Tests.{ne-eqb}
 use lib.ListN.{length, getD, set, length-set}
-use Rattle.bits.specs.Bits.{bit, numberOf, byteOf, pickBit, blendK}
-use Rattle.bits.specs.Choice.{pick, both, either, mark, allBelow}
-use Rattle.bits.specs.Places.{bytes, mapN}
+use Rattle.bits.specs.Bits.{bit, byteOf, pickBit, blendK}
+use Rattle.bits.specs.Choice.{pick, both, allBelow}
+use Rattle.bits.specs.Places.{bytes}
 use Rattle.bits.proofs.Laws.{number-ext, bit-number, bit-zero, bit<2, pick-bit, blend-number}
 use Rattle.bits.proofs.Below.{below, same, same-eq, is-false, pick-has}
 use Rattle.bits.proofs.Places.{getD-bytes, length-bytes, as-bytes, length-mapN, getD-mapN, set-at, length-put4, put4-at}
-use Rattle.answer.specs.Refusals.{Reply, ok, no, OFFSET, LANES}
+use Rattle.answer.specs.Refusals.{ok, no, OFFSET, LANES}
 use Rattle.map.specs.Registers.{GMADR, MSAC, AFCTL}
 use Rattle.map.specs.Class.{resetStart, hasF, sameClass}
-use Rattle.map.specs.Map.{rows, rowAt, classOf, maskAt, guests, guestAt, defaultAt, resetAt}
-use Rattle.map.proofs.Classes.{mask-bit, guest-mask, reset-mask}
+use Rattle.map.specs.Map.{rows, rowAt, classOf, maskAt, guests, defaultAt}
+use Rattle.map.proofs.Classes.{reset-mask}
 use Rattle.map.proofs.Blends.{blend-by}
 use Rattle.rules.specs.declared.State.{State}
-use Rattle.rules.specs.declared.Closed.{Closed}
 use Rattle.rules.specs.Access.{byte, enabled, byteFor, badOffset, badLanes, Outcome, done, refused}
-use Rattle.rules.specs.Guest.{sizeOf, takenBy, takes, store, clear, reset, starts, storedBit, sizeAfter, bitAfter, closedAfter, stepOf, writeOf}
+use Rattle.rules.specs.Guest.{sizeOf, takenBy, store, clear, reset, starts, storedBit, sizeAfter, bitAfter, closedAfter, stepOf, writeOf}
 use Rattle.rules.proofs.Access.{good-offset, enabled-at, byteFor-at, stored<2, clear<2, outside, not-within, no-aperture}
 use Rattle.lanes.specs.Lane.{takenMask, ifEnabled, laneOf}
 use Rattle.lanes.proofs.Bridge.{open-mask, store-byte}
