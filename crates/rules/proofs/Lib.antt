@@ -1,3 +1,7 @@
 pub mod Access
 pub mod EachBit
 pub mod One
+pub mod Kept
+pub mod Runs
+pub mod Once
+pub mod Fixed

@@ -6,3 +6,6 @@ pub mod Fresh
 pub mod Ports
 pub mod Claims
 pub mod Answers
+pub mod Events
+pub mod History
+pub mod Demand3

@@ -1,0 +1,179 @@
+-- Since the last platform reset, each bit of a write-once field holds its default until the first accepted guest write that enables a byte
+-- of the field, and from then on that write's bit where its byte was enabled, else the default.
+use mathlib.Core.Path.{_≡_, refl, sym, ap, subst, _∙_}
+use mathlib.Core.List.{List, [], _∷_}
+use mathlib.Core.Bool.{Bool, true, false, not}
+use Prim.Native.Nat.{ℕ, _+_, _-_, _<_}
+use native.Mathlib.Omega.{arith}
+use lib.Dec.{T, eqb, ltb, leb}
+use Rattle.bits.specs.Bits.{bit}
+use Rattle.bits.specs.Choice.{pick, both, either}
+use Rattle.bits.proofs.Below.{both-right, either-left, either-right, pick-has, false-unless, any-has, is-true}
+use Rattle.map.specs.Registers.{MSAC}
+use Rattle.map.specs.Class.{Field, svid2, sid2, swsci15, once, resetStart, sameClass}
+use Rattle.map.specs.Map.{classOf, defaultAt}
+use Rattle.rules.specs.declared.State.{State}
+use Rattle.rules.specs.Access.{byte, enabled, byteFor}
+use Rattle.rules.specs.Guest.{closed, sizeOf, takenBy, takes, store, storedBit, bitAfter, ofField, touches, closedAfter, stepOf}
+use Rattle.rules.specs.Host.{notHost, hostStepOf, hostOf}
+use Rattle.rules.specs.Fresh.{freshOf}
+use Rattle.rules.specs.Events.{Event, read, write, port-read, port-write, host-update, platform-reset, happens, runFrom, run}
+use Rattle.rules.specs.History.{isReset, anyReset, since, latchAfter, GuestWrite, none, at, guestWrite, touching, firstFrom, firstWrite, overDefault}
+use Rattle.rules.proofs.Access.{enabled-within}
+use Rattle.rules.proofs.EachBit.{bit-after, bit-hosted, host-state}
+use Rattle.rules.proofs.Kept.{only-stored, stored-off, host-kept}
+use Rattle.rules.proofs.Runs.{run-since, since-none, performed, write-effect, port-effect}
+
+-- ---- flags
+
+closes : (b : Bool) (x : ℕ) → not (eqb (pick b 1 x) 0) ≡ either b (not (eqb x 0))
+closes true x = refl
+closes false x = refl
+
+closed-step : (f : Field) (s : State) (o l v : ℕ) → closed (stepOf s o l v .closed) f ≡ either (touches o l f) (closed (s .closed) f)
+unfolding stepOf closedAfter
+closed-step svid2 s o l v = closes (touches o l svid2) (s .closed .svid2)
+closed-step sid2 s o l v = closes (touches o l sid2) (s .closed .sid2)
+closed-step swsci15 s o l v = closes (touches o l swsci15) (s .closed .swsci15)
+
+closed-performed : (f : Field) (g : GuestWrite) (s : State) → closed (performed g s .closed) f ≡ either (touching f g) (closed (s .closed) f)
+closed-performed f none s = refl
+closed-performed f (at o l v) s = closed-step f s o l v
+
+latch-performed : (g : GuestWrite) (s : State) → performed g s .latch ≡ s .latch
+unfolding stepOf
+latch-performed none s = refl
+latch-performed (at o l v) s = refl
+
+fresh-open : (f : Field) → closed (freshOf .closed) f ≡ false
+unfolding freshOf
+fresh-open svid2 = refl
+fresh-open sid2 = refl
+fresh-open swsci15 = refl
+
+untaken : (f : Field) (code : ℕ) → takenBy code (once f) ≡ false
+unfolding takenBy
+untaken f code = refl
+
+no-start : (f : Field) → sameClass (once f) resetStart ≡ false
+no-start svid2 = refl
+no-start sid2 = refl
+no-start swsci15 = refl
+
+itself : (f : Field) → sameClass (once f) (once f) ≡ true
+itself svid2 = refl
+itself sid2 = refl
+itself swsci15 = refl
+
+-- ---- one bit of a field
+
+module _ (f : Field) (i j : ℕ) (h : i < 256) (k : j < 8) (is : classOf i j ≡ once f) where
+  abbrev B : State → ℕ
+  B s = bit (byte s i) j
+
+  of-field : ofField f i ≡ true
+  unfolding ofField
+  of-field = any-has 8 (λ (j : ℕ). sameClass (classOf i j) (once f)) j k (rw is (itself f))
+
+  -- a write that enables the byte touches the field
+  touched : (o l : ℕ) → T (enabled o l i) → touches o l f ≡ true
+  unfolding touches enabled
+  touched o l t =
+      let w = enabled-within o l i t in
+      let at : o + (i - o) ≡ i = omega (arith, w .0) in
+      let on : eqb (bit l (i - o)) 1 ≡ true = is-true (eqb (bit l (i - o)) 1) (both-right (ltb i (o + 4)) _ (both-right (leb o i) _ t)) in
+      any-has 4 (λ (k : ℕ). both (eqb (bit l k) 1) (ofField f (o + k))) (i - o) (omega (arith, w .0, w .1)) (rw (on, at) of-field)
+
+  untouched : (o l : ℕ) → touches o l f ≡ false → enabled o l i ≡ false
+  untouched o l e = false-unless (enabled o l i) (λ t. subst T (sym (touched o l t) ∙ e) tt)
+
+  step-bit : (s : State) (o l v : ℕ) → B (stepOf s o l v) ≡ storedBit s o l v i j
+  step-bit s o l v = bit-after s o l v i j h k ∙ only-stored s o l v i j (λ code. rw is (untaken f code)) (rw is) (rw is (no-start f))
+
+  -- closed: nothing is taken
+  closed-bit : (g : GuestWrite) (s : State) → closed (s .closed) f ≡ true → B (performed g s) ≡ B s
+  unfolding takes
+  closed-bit none s c = refl
+  closed-bit (at o l v) s c = step-bit s o l v ∙ stored-off s o l v i j (rw (is, c))
+
+  -- open, at its default: the enabled byte over the default
+  open-bit : (g : GuestWrite) (s : State) → closed (s .closed) f ≡ false → B s ≡ bit (defaultAt i) j → B (performed g s) ≡ overDefault g i j
+  unfolding storedBit store takes
+  open-bit none s c d = d
+  open-bit (at o l v) s c d = step-bit s o l v ∙ go (enabled o l i)
+    where
+      go : (e : Bool) → store e (s .closed) (sizeOf (byte s MSAC)) (byteFor o v i) i j (bit (byte s i) j) ≡ pick e (bit (byteFor o v i) j) (bit (defaultAt i) j)
+      go true = rw (is, c)
+      go false = d
+
+  -- not touched: it stays at its default
+  untouched-bit : (g : GuestWrite) → touching f g ≡ false → overDefault g i j ≡ bit (defaultAt i) j
+  untouched-bit none e = refl
+  untouched-bit (at o l v) e = rw (untouched o l e)
+
+  -- ---- one event that is no platform reset, in the words of the history
+
+  pub record After (e : Event) (s : State) : Type 0 where
+    pub latch : happens e s .state .latch ≡ latchAfter (s .latch) e
+    pub closes : closed (happens e s .state .closed) f ≡ either (touching f (guestWrite (s .latch) e)) (closed (s .closed) f)
+    pub bits : B (happens e s .state) ≡ B (performed (guestWrite (s .latch) e) s)
+
+  hosted : (s : State) (o m v : ℕ) → (hostOf s o m v .state .latch ≡ s .latch) × ((closed (hostOf s o m v .state .closed) f ≡ closed (s .closed) f) × (B (hostOf s o m v .state) ≡ B s))
+  unfolding hostStepOf
+  hosted s o m v = rw (host-state s o m v) (go (ltb 255 o) (notHost o m) refl)
+    where
+      go : (a b : Bool) → notHost o m ≡ b → (pick (not (either a b)) (hostStepOf s o m v) s .latch ≡ s .latch) × ((closed (pick (not (either a b)) (hostStepOf s o m v) s .closed) f ≡ closed (s .closed) f) × (B (pick (not (either a b)) (hostStepOf s o m v) s) ≡ B s))
+      go true b e = (refl, (refl, refl))
+      go false true e = (refl, (refl, refl))
+      go false false e = (refl, (refl, bit-hosted s o m v i j h k ∙ host-kept s o m v i j k (rw is) e))
+
+  event : (e : Event) (s : State) → isReset e ≡ false → After e s
+  unfolding happens guestWrite
+  event (read o l) s n = record { latch = refl; closes = refl; bits = refl }
+  event (write o l v) s n =
+      let g = guestWrite (s .latch) (write o l v) in
+      let q = write-effect s o l v in
+      record { latch = ap (λ (x : State). x .latch) q ∙ latch-performed g s; closes = ap (λ (x : State). closed (x .closed) f) q ∙ closed-performed f g s; bits = ap B q }
+  event (port-read p w) s n = record { latch = refl; closes = refl; bits = refl }
+  event (port-write p w v) s n =
+      let g = guestWrite (s .latch) (port-write p w v) in
+      let q = port-effect s p w v in
+      record { latch = ap (λ (x : State). x .latch) q; closes = ap (λ (x : State). closed (x .closed) f) q ∙ closed-performed f g s; bits = ap B q }
+  event (host-update o m v) s n = let q = hosted s o m v in record { latch = q .0; closes = q .1 .0; bits = q .1 .1 }
+  event platform-reset s n = absurd (subst T n tt)
+
+  -- ---- runs without a platform reset
+
+  closed-run : (es : List Event) (s : State) → anyReset es ≡ false → closed (s .closed) f ≡ true → B (runFrom s es) ≡ B s
+  unfolding runFrom anyReset
+  closed-run [] s n c = refl
+  closed-run (e ∷ es) s n c =
+      let a = event e s (either-left (isReset e) (anyReset es) n) in
+      closed-run es (happens e s .state) (either-right (isReset e) (anyReset es) n) (a .closes ∙ rw c (either-on (touching f (guestWrite (s .latch) e)))) ∙ a .bits ∙ closed-bit (guestWrite (s .latch) e) s c
+    where
+      either-on : (b : Bool) → either b true ≡ true
+      either-on true = refl
+      either-on false = refl
+
+  open-run : (es : List Event) (s : State) → anyReset es ≡ false → closed (s .closed) f ≡ false → B s ≡ bit (defaultAt i) j → B (runFrom s es) ≡ overDefault (firstFrom (s .latch) f es) i j
+  unfolding runFrom anyReset firstFrom
+  open-run [] s n c d = d
+  open-run (e ∷ es) s n c d = go (touching f (guestWrite (s .latch) e)) refl (λ q r. open-run es (happens e s .state) (either-right (isReset e) (anyReset es) n) q r)
+    where
+      a : After e s
+      a = event e s (either-left (isReset e) (anyReset es) n)
+
+      go : (t : Bool) → touching f (guestWrite (s .latch) e) ≡ t → (closed (happens e s .state .closed) f ≡ false → B (happens e s .state) ≡ bit (defaultAt i) j → B (runFrom (happens e s .state) es) ≡ overDefault (firstFrom (happens e s .state .latch) f es) i j) → B (runFrom (happens e s .state) es) ≡ overDefault (pick t (guestWrite (s .latch) e) (firstFrom (latchAfter (s .latch) e) f es)) i j
+      go true t ih = closed-run es (happens e s .state) (either-right (isReset e) (anyReset es) n) (a .closes ∙ rw t) ∙ a .bits ∙ open-bit (guestWrite (s .latch) e) s c d
+      go false t ih = rw (← a .latch) (ih (a .closes ∙ rw (t, c)) (a .bits ∙ open-bit (guestWrite (s .latch) e) s c d ∙ untouched-bit (guestWrite (s .latch) e) t))
+
+  fresh-bit : B freshOf ≡ bit (defaultAt i) j
+  unfolding freshOf
+  fresh-bit = refl
+
+  fresh-latch : freshOf .latch ≡ 0
+  unfolding freshOf
+  fresh-latch = refl
+
+  pub once-history : (es : List Event) → B (run es) ≡ overDefault (firstWrite f es) i j
+  once-history es = ap B (run-since es) ∙ open-run (since es) freshOf (since-none es) (fresh-open f) fresh-bit ∙ rw fresh-latch

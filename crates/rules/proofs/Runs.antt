@@ -1,0 +1,143 @@
+-- Events and runs: what an event comes to, the events since the last platform reset, and what every run keeps.
+use mathlib.Core.Path.{_≡_, refl, sym, subst, ap, _∙_}
+use mathlib.Core.List.{List, [], _∷_}
+use mathlib.Core.Bool.{Bool, true, false, not}
+use Prim.Native.Nat.{ℕ, _-_, _≤_}
+use lib.Dec.{T, eqb, ltb, eqb→eq}
+use borrow.Author.Tests.{eqb-true, ltb-false}
+use Rattle.bits.specs.Choice.{pick, both, either}
+use Rattle.bits.proofs.Below.{pick-has, both-right}
+use Rattle.answer.specs.Refusals.{WIDTH, NOT-OURS, OTHER-FUNCTION}
+use Rattle.rules.specs.declared.State.{State}
+use Rattle.rules.specs.Access.{badOffset, badLanes, Outcome, done, refused}
+use Rattle.rules.specs.Guest.{stepOf, writeOf}
+use Rattle.rules.specs.Host.{notHost, hostStepOf, hostOf}
+use Rattle.rules.specs.Fresh.{freshOf}
+use Rattle.rules.specs.Ports.{ADDRESS, DATA, badWidth, atLatch, notOurs, otherFunction, latchOf, latched, dwordOf, portLanes, placed, portWriteOf}
+use Rattle.rules.specs.Events.{Event, read, write, port-read, port-write, host-update, platform-reset, happens, runFrom, run}
+use Rattle.rules.specs.History.{isReset, anyReset, since, latchAfter, GuestWrite, none, at, guestWrite}
+use Rattle.rules.proofs.EachBit.{write-state, host-state}
+
+-- ---- the events since the last platform reset
+
+since-all : (es : List Event) → anyReset es ≡ false → since es ≡ es
+unfolding since
+since-all [] n = refl
+since-all (e ∷ es) n = rw n
+
+either-true : (a b : Bool) → either a b ≡ true → b ≡ false → a ≡ true
+either-true true b e n = refl
+either-true false b e n = absurd (subst T (sym e ∙ n) tt)
+
+-- a platform reset forgets the state
+reset-forgets : (e : Event) (s : State) → isReset e ≡ true → happens e s .state ≡ freshOf
+unfolding happens
+reset-forgets (read o l) s e = absurd (subst T (sym e) tt)
+reset-forgets (write o l v) s e = absurd (subst T (sym e) tt)
+reset-forgets (port-read p w) s e = absurd (subst T (sym e) tt)
+reset-forgets (port-write p w v) s e = absurd (subst T (sym e) tt)
+reset-forgets (host-update o m v) s e = absurd (subst T (sym e) tt)
+reset-forgets platform-reset s e = refl
+
+since-reset : (es : List Event) (s : State) → anyReset es ≡ true → runFrom s es ≡ run (since es)
+unfolding runFrom since anyReset
+since-reset [] s t = absurd (subst T (sym t) tt)
+since-reset (e ∷ es) s t = rw t (go (anyReset es) refl (λ u. since-reset es (happens e s .state) u))
+  where
+    go : (b : Bool) → anyReset es ≡ b → (anyReset es ≡ true → runFrom (happens e s .state) es ≡ run (since es)) → runFrom (happens e s .state) es ≡ run (since es)
+    go true u ih = ih u
+    go false u ih = rw (reset-forgets e s (either-true (isReset e) (anyReset es) t u), since-all es u)
+
+-- a run is the run of what came since
+pub run-since : (es : List Event) → run es ≡ run (since es)
+run-since es = go (anyReset es) refl
+  where
+    go : (b : Bool) → anyReset es ≡ b → run es ≡ run (since es)
+    go true t = since-reset es freshOf t
+    go false n = rw (since-all es n)
+
+pub since-none : (es : List Event) → anyReset (since es) ≡ false
+unfolding since anyReset
+since-none [] = refl
+since-none (e ∷ es) = go (either (isReset e) (anyReset es)) refl (since-none es)
+  where
+    go : (b : Bool) → either (isReset e) (anyReset es) ≡ b → anyReset (since es) ≡ false → anyReset (pick b (since es) (e ∷ es)) ≡ false
+    go true n ih = ih
+    go false n ih = n
+
+-- ---- what an event comes to
+
+-- the state after a guest write, if there is one
+abbrev pub performed : GuestWrite → State → State
+performed none s = s
+performed (at o l v) s = stepOf s o l v
+
+abbrev pub withLatch : ℕ → State → State
+withLatch x s = record { bytes = s .bytes; latch = x; closed = s .closed }
+
+-- 4 bytes at CF8h are of a right width
+latch-width : (p w : ℕ) → atLatch p w ≡ true → badWidth w ≡ false
+latch-width p w e =
+    let four : w ≡ 4 = eqb→eq w 4 (both-right (eqb p ADDRESS) (eqb w 4) (subst T (sym e) tt)) in
+    rw four
+
+pub write-effect : (s : State) (o l v : ℕ) → writeOf s o l v .state ≡ performed (guestWrite (s .latch) (write o l v)) s
+unfolding guestWrite
+write-effect s o l v = write-state s o l v ∙ go (either (badOffset o) (badLanes l))
+  where
+    go : (b : Bool) → pick (not b) (stepOf s o l v) s ≡ performed (pick b none (at o l v)) s
+    go true = refl
+    go false = refl
+
+pub port-effect : (s : State) (p w v : ℕ) → portWriteOf s p w v .state ≡ withLatch (latchAfter (s .latch) (port-write p w v)) (performed (guestWrite (s .latch) (port-write p w v)) s)
+unfolding portWriteOf notOurs guestWrite stepOf
+port-effect s p w v = go (badWidth w) (notOurs (s .latch) p w) (atLatch p w) (otherFunction (s .latch)) refl refl refl
+  where
+    o : ℕ
+    o = dwordOf (s .latch)
+
+    l : ℕ
+    l = portLanes (p - DATA) w
+
+    x : ℕ
+    x = placed v (p - DATA) w
+
+    go : (a b c d : Bool) → badWidth w ≡ a → notOurs (s .latch) p w ≡ b → atLatch p w ≡ c → pick a (refused WIDTH s) (pick b (refused NOT-OURS s) (pick c (done (latched s v)) (pick d (refused OTHER-FUNCTION s) (done (stepOf s o l x))))) .state ≡ withLatch (pick c (latchOf v) (s .latch)) (performed (pick (either a (either b (either c d))) none (at o l x)) s)
+    go true b true d ea eb ec = absurd (subst T (sym ea ∙ latch-width p w ec) tt)
+    go true b false d ea eb ec = refl
+    go false true true d ea eb ec =
+        let ours : notOurs (s .latch) p w ≡ false = rw ec in
+        absurd (subst T (sym eb ∙ ours) tt)
+    go false true false d ea eb ec = refl
+    go false false true d ea eb ec = refl
+    go false false false true ea eb ec = refl
+    go false false false false ea eb ec = refl
+
+-- ---- what every run keeps: what the fresh state has, and guest writes, host updates and the latch leave
+
+module _ (P : State → Type 0) (fresh : P freshOf) (step : (s : State) (o l v : ℕ) → P s → P (stepOf s o l v)) (host : (s : State) (o m v : ℕ) → notHost o m ≡ false → P s → P (hostStepOf s o m v)) (latch : (s : State) (x : ℕ) → P s → P (withLatch x s)) where
+  performed-keeps : (g : GuestWrite) (s : State) → P s → P (performed g s)
+  performed-keeps none s h = h
+  performed-keeps (at o l v) s h = step s o l v h
+
+  event-keeps : (e : Event) (s : State) → P s → P (happens e s .state)
+  unfolding happens
+  event-keeps (read o l) s h = h
+  event-keeps (write o l v) s h = rw (write-effect s o l v) (performed-keeps (guestWrite (s .latch) (write o l v)) s h)
+  event-keeps (port-read p w) s h = h
+  event-keeps (port-write p w v) s h = rw (port-effect s p w v) (latch _ _ (performed-keeps (guestWrite (s .latch) (port-write p w v)) s h))
+  event-keeps (host-update o m v) s h = rw (host-state s o m v) (go (ltb 255 o) (notHost o m) refl)
+    where
+      go : (a b : Bool) → notHost o m ≡ b → P (pick (not (either a b)) (hostStepOf s o m v) s)
+      go true b e = h
+      go false true e = h
+      go false false e = host s o m v e h
+  event-keeps platform-reset s h = fresh
+
+  runFrom-keeps : (es : List Event) (s : State) → P s → P (runFrom s es)
+  unfolding runFrom
+  runFrom-keeps [] s h = h
+  runFrom-keeps (e ∷ es) s h = runFrom-keeps es (happens e s .state) (event-keeps e s h)
+
+  pub always : (es : List Event) → P (run es)
+  always es = runFrom-keeps es freshOf fresh

@@ -1,0 +1,45 @@
+-- What can happen to the twin, with any arguments, what is said to it, and what a run of events leaves.
+use mathlib.Core.List.{List, [], _∷_}
+use Prim.Native.Nat.{ℕ}
+use Rattle.answer.specs.Refusals.{Reply, ok}
+use Rattle.rules.specs.declared.State.{State}
+use Rattle.rules.specs.Access.{Outcome, done}
+use Rattle.rules.specs.Guest.{writeOf}
+use Rattle.rules.specs.Read.{readOf}
+use Rattle.rules.specs.Host.{hostOf}
+use Rattle.rules.specs.Fresh.{freshOf}
+use Rattle.rules.specs.Ports.{portReadOf, portWriteOf}
+
+pub data Event : Type 0 where
+  -- offset, lanes
+  read : ℕ → ℕ → Event
+  -- offset, lanes, value
+  write : ℕ → ℕ → ℕ → Event
+  -- port, width
+  port-read : ℕ → ℕ → Event
+  -- port, width, value
+  port-write : ℕ → ℕ → ℕ → Event
+  -- offset, mask, value
+  host-update : ℕ → ℕ → ℕ → Event
+  platform-reset : Event
+
+-- a read leaves the state
+abbrev pub looked : Reply → State → Outcome
+looked r s = record { reply = r; state = s }
+
+-- what the entry of the event gives
+unfoldable pub happens : Event → State → Outcome
+happens (read o l) s = looked (readOf s o l) s
+happens (write o l v) s = writeOf s o l v
+happens (port-read p w) s = looked (portReadOf s p w) s
+happens (port-write p w v) s = portWriteOf s p w v
+happens (host-update o m v) s = hostOf s o m v
+happens platform-reset s = done freshOf
+
+unfoldable pub runFrom : State → List Event → State
+runFrom s [] = s
+runFrom s (e ∷ es) = runFrom (happens e s .state) es
+
+-- a run starts from the fresh state
+abbrev pub run : List Event → State
+run es = runFrom freshOf es

@@ -1,0 +1,110 @@
+-- The history of a bit, from the list of events alone: no state is asked.
+use mathlib.Core.List.{List, [], _∷_}
+use mathlib.Core.Bool.{Bool, true, false, not}
+use Prim.Native.Nat.{ℕ, _-_}
+use Rattle.bits.specs.Bits.{bit}
+use Rattle.bits.specs.Choice.{if_then_else_, _and_, _or_, _is_, _<?_}
+use Rattle.map.specs.Class.{Field}
+use Rattle.map.specs.Map.{defaultAt}
+use Rattle.rules.specs.Access.{enabled, byteFor, badOffset, badLanes}
+use Rattle.rules.specs.Guest.{touches}
+use Rattle.rules.specs.Host.{notHost}
+use Rattle.rules.specs.Ports.{DATA, badWidth, atLatch, notOurs, otherFunction, latchOf, dwordOf, portLanes, placed}
+use Rattle.rules.specs.Events.{Event, read, write, port-read, port-write, host-update, platform-reset}
+
+-- ---- the events since the last platform reset, or the start
+
+abbrev pub isReset : Event → Bool
+isReset (read o l) = false
+isReset (write o l v) = false
+isReset (port-read p w) = false
+isReset (port-write p w v) = false
+isReset (host-update o m v) = false
+isReset platform-reset = true
+
+unfoldable pub anyReset : List Event → Bool
+anyReset [] = false
+anyReset (e ∷ es) = isReset e or anyReset es
+
+unfoldable pub since : List Event → List Event
+since [] = []
+since (e ∷ es) = if anyReset (e ∷ es) then since es else e ∷ es
+
+-- ---- the port latch, by the accepted writes to CF8h
+
+abbrev pub latchAfter : ℕ → Event → ℕ
+latchAfter x (read o l) = x
+latchAfter x (write o l v) = x
+latchAfter x (port-read p w) = x
+latchAfter x (port-write p w v) = if atLatch p w then latchOf v else x
+latchAfter x (host-update o m v) = x
+latchAfter x platform-reset = 0
+
+-- ---- accepted guest writes to this function, by dword or through the port pair
+
+pub data GuestWrite : Type 0 where
+  none : GuestWrite
+  -- offset, lanes, value
+  at : ℕ → ℕ → ℕ → GuestWrite
+
+-- the guest write that an event comes to, where the latch holds x
+unfoldable pub guestWrite : ℕ → Event → GuestWrite
+guestWrite x (read o l) = none
+guestWrite x (write o l v) = if badOffset o or badLanes l then none else at o l v
+guestWrite x (port-read p w) = none
+guestWrite x (port-write p w v) =
+    if badWidth w or notOurs x p w or atLatch p w or otherFunction x then none
+    else at (dwordOf x) (portLanes (p - DATA) w) (placed v (p - DATA) w)
+guestWrite x (host-update o m v) = none
+guestWrite x platform-reset = none
+
+-- it enables a byte of the field
+abbrev pub touching : Field → GuestWrite → Bool
+touching f none = false
+touching f (at o l v) = touches o l f
+
+-- the first of them that does
+unfoldable pub firstFrom : ℕ → Field → List Event → GuestWrite
+firstFrom x f [] = none
+firstFrom x f (e ∷ es) = if touching f (guestWrite x e) then guestWrite x e else firstFrom (latchAfter x e) f es
+
+abbrev pub firstWrite : Field → List Event → GuestWrite
+firstWrite f es = firstFrom 0 f (since es)
+
+-- bit j of byte i: that write's enabled bytes over the default; the default where there is none
+abbrev pub overDefault : GuestWrite → ℕ → ℕ → ℕ
+overDefault none i j = bit (defaultAt i) j
+overDefault (at o l v) i j = if enabled o l i then bit (byteFor o v i) j else bit (defaultAt i) j
+
+-- ---- accepted host updates
+
+pub data Given : Type 0 where
+  nothing : Given
+  given : ℕ → Given
+
+infixr 20 _orElse_
+abbrev pub _orElse_ : Given → Given → Given
+nothing orElse b = b
+(given x) orElse b = given x
+
+-- what an event gives bit j of byte i, if it is an accepted host update that masks it
+unfoldable pub gives : ℕ → ℕ → Event → Given
+gives i j (read o l) = nothing
+gives i j (write o l v) = nothing
+gives i j (port-read p w) = nothing
+gives i j (port-write p w v) = nothing
+gives i j (host-update o m v) = if not (255 <? o or notHost o m) and i is o and bit m j is 1 then given (bit v j) else nothing
+gives i j platform-reset = nothing
+
+-- the last of them that does
+unfoldable pub lastGiven : ℕ → ℕ → List Event → Given
+lastGiven i j [] = nothing
+lastGiven i j (e ∷ es) = lastGiven i j es orElse gives i j e
+
+abbrev pub lastUpdate : ℕ → ℕ → List Event → Given
+lastUpdate i j es = lastGiven i j (since es)
+
+-- the bit that it gave; the default where there is none
+abbrev pub orDefault : Given → ℕ → ℕ → ℕ
+orDefault nothing i j = bit (defaultAt i) j
+orDefault (given x) i j = x
