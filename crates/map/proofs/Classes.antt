@@ -1,7 +1,7 @@
 -- The map gives each of the 2,048 bits one class, and the tables say what the classes say.
-use mathlib.Core.Path.{_≡_, refl, _∙_, ap}
+use mathlib.Core.Path.{_≡_, refl, sym, subst, _∙_, ap}
 use mathlib.Core.List.{List, [], _∷_}
-use mathlib.Core.Bool.{Bool, true}
+use mathlib.Core.Bool.{Bool, true, false}
 use Prim.Native.Nat.{ℕ, _+_, _-_, _*_, _<_, _≤_, _^_}
 use native.Mathlib.Omega.{arith}
 use lib.Dec.{T, leb, ltb, leb→le}
@@ -9,9 +9,9 @@ use Rattle.bits.specs.Bits.{bit}
 use Rattle.bits.specs.Choice.{both, mark, allBelow, if_then_else_, _is_}
 use Rattle.bits.proofs.Laws.{bit-number}
 use Rattle.bits.proofs.Below.{below, both-left, both-right, both-off, mark<2}
-use borrow.Author.Tests.{le-ltb}
+use borrow.Author.Tests.{le-ltb, eqb-true}
 use Rattle.bits.proofs.Places.{getD-bytes}
-use Rattle.map.specs.Class.{Class, readOnly, host, guest, guestF, once, sizeCode, aperture, power, computed, resetStart, stores, isHost, hasF}
+use Rattle.map.specs.Class.{Field, svid2, sid2, swsci15, Class, readOnly, host, guest, guestF, once, sizeCode, aperture, power, computed, resetStart, stores, isHost, hasF, number, sameClass}
 use Rattle.map.specs.Map.{Rule, Row, row, read-only, rows, rowAt, rowIn, has, classOf, defaultIn, maskAt, defaults, guests, hosts, resets, defaultAt, guestAt, hostAt, resetAt}
 
 -- ---- a mask's bit is set exactly if the class of the bit passes
@@ -143,3 +143,38 @@ no-row at (r ∷ rs) t i h =
 pub past-the-map : (i j : ℕ) → 256 ≤ i → classOf i j ≡ readOnly
 unfolding classOf rowAt
 past-the-map i j h = rw (no-row 0 rows rows-fit i h)
+
+-- ---- a class that has the number of a write-once field's is that field's
+
+same-field : (g f : Field) → sameClass (once g) (once f) ≡ true → once g ≡ once f
+same-field svid2 svid2 e = refl
+same-field sid2 sid2 e = refl
+same-field swsci15 swsci15 e = refl
+same-field svid2 sid2 e = absurd (subst T (sym e) tt)
+same-field svid2 swsci15 e = absurd (subst T (sym e) tt)
+same-field sid2 svid2 e = absurd (subst T (sym e) tt)
+same-field sid2 swsci15 e = absurd (subst T (sym e) tt)
+same-field swsci15 svid2 e = absurd (subst T (sym e) tt)
+same-field swsci15 sid2 e = absurd (subst T (sym e) tt)
+
+once-number : (f : Field) → (8 ≤ number (once f)) × (number (once f) < 11)
+once-number svid2 = (omega arith, omega arith)
+once-number sid2 = (omega arith, omega arith)
+once-number swsci15 = (omega arith, omega arith)
+
+pub same-once : (c : Class) (f : Field) → sameClass c (once f) ≡ true → c ≡ once f
+same-once (once g) f e = same-field g f e
+same-once readOnly f e = absurd (omega (arith, eqb-true 0 (number (once f)) e, once-number f .0))
+same-once host f e = absurd (omega (arith, eqb-true 1 (number (once f)) e, once-number f .0))
+same-once guest f e = absurd (omega (arith, eqb-true 2 (number (once f)) e, once-number f .0))
+same-once guestF f e = absurd (omega (arith, eqb-true 3 (number (once f)) e, once-number f .0))
+same-once sizeCode f e = absurd (omega (arith, eqb-true 4 (number (once f)) e, once-number f .0))
+same-once power f e = absurd (omega (arith, eqb-true 5 (number (once f)) e, once-number f .0))
+same-once computed f e = absurd (omega (arith, eqb-true 6 (number (once f)) e, once-number f .0))
+same-once resetStart f e = absurd (omega (arith, eqb-true 7 (number (once f)) e, once-number f .0))
+same-once (aperture b) f e = absurd (omega (arith, eqb-true (11 + b) (number (once f)) e, once-number f .1))
+
+pub not-computed : (f : Field) → sameClass (once f) computed ≡ false
+not-computed svid2 = refl
+not-computed sid2 = refl
+not-computed swsci15 = refl

@@ -5,3 +5,6 @@ pub mod Kept
 pub mod Runs
 pub mod Once
 pub mod Fixed
+pub mod Size
+pub mod Aligned
+pub mod Demand3

@@ -1,0 +1,147 @@
+-- Demand 3 is proved, clause by clause; the statements are in specs/Demand3.antt.
+use mathlib.Core.Path.{_≡_, refl, sym, ap, subst, _∙_}
+use mathlib.Core.List.{List}
+use mathlib.Core.Bool.{Bool, true, false, not}
+use Prim.Native.Nat.{ℕ, _+_, _*_, _/_, _%_, _^_, _<_}
+use native.Mathlib.Omega.{arith}
+use native.Mathlib.Nat.{div-one}
+use lib.Dec.{T, eqb, ltb}
+use borrow.Author.Tests.{eqb-false}
+use Rattle.bits.specs.Bits.{bit, numberOf}
+use Rattle.bits.specs.Choice.{pick, both, allBelow}
+use Rattle.bits.proofs.Laws.{number-ext, number-bits, number-none, number-split}
+use Rattle.bits.proofs.Below.{below, both-left, both-right, is-true, is-false, pick-has}
+use Rattle.answer.specs.Refusals.{ok}
+use Rattle.map.specs.Registers.{CAPPOINT, CAPL, SVID2, SID2, SWSCI}
+use Rattle.map.specs.Class.{Field, svid2, sid2, swsci15, once, sameClass}
+use Rattle.map.specs.Map.{rows, rowAt, classOf}
+use Rattle.map.proofs.Classes.{same-once, not-computed}
+use Rattle.rules.specs.declared.State.{State}
+use Rattle.rules.specs.Access.{byte, badOffset, badLanes, done, refused}
+use Rattle.rules.specs.Guest.{stepOf, writeOf}
+use Rattle.rules.specs.Read.{pointer, readBit, readValue, readOf}
+use Rattle.rules.specs.Host.{notHost, hostStepOf, hostOf}
+use Rattle.rules.specs.Ports.{badWidth, notOurs, atLatch, otherFunction, latched, portWriteOf}
+use Rattle.rules.specs.Events.{Event, read, write, port-read, port-write, host-update, platform-reset, happens, run}
+use Rattle.rules.specs.Demand3.{Write-once, Read-only, Computed, Aperture, Refused, Reads, lockedWord, Read-back-2C, Read-back-2E, Read-back-E8}
+use Rattle.rules.specs.History.{firstWrite, overDefault}
+use Rattle.rules.proofs.EachBit.{each-bit-read}
+use Rattle.rules.proofs.Once.{once-history}
+use Rattle.rules.proofs.Fixed.{fixed-history}
+use Rattle.rules.proofs.Size.{never-10}
+use Rattle.rules.proofs.Aligned.{aligned}
+
+pub write-once : Write-once
+write-once es f i j h k is = once-history f i j h k is es
+
+pub read-only : Read-only
+read-only es i j h k fixed = fixed-history i j h k fixed es
+
+pointer< : (s : State) → pointer s < 2 ^ 8
+unfolding pointer
+pointer< s = pick-has (λ (x : ℕ). x < 2 ^ 8) (eqb (bit (byte s CAPL) 0) 1) 0xD0 0x90 (omega arith) (omega arith)
+
+pointer-read : (s : State) → readOf s CAPPOINT 1 ≡ ok (pointer s)
+unfolding readOf readValue readBit numberOf rows rowAt classOf
+pointer-read s = ap ok (number-bits 8 (pointer s) (pointer< s))
+
+pub list-pointer : Computed
+unfolding pointer
+list-pointer es = pointer-read (run es)
+
+pub aperture : Aperture
+aperture es = (eqb-false _ 2 (never-10 es), aligned es)
+
+-- ---- refused events and reads
+
+two : (a b : Bool) (m n : ℕ) (s t : State) → (pick a (refused m s) (pick b (refused n s) (done t)) .reply .number ≡ 0 → ⊥) → pick a (refused m s) (pick b (refused n s) (done t)) .state ≡ s
+two true b m n s t r = refl
+two false true m n s t r = refl
+two false false m n s t r = absurd (r refl)
+
+three : (a b c d : Bool) (l m n : ℕ) (s t u : State) → (pick a (refused l s) (pick b (refused m s) (pick c (done t) (pick d (refused n s) (done u)))) .reply .number ≡ 0 → ⊥) → pick a (refused l s) (pick b (refused m s) (pick c (done t) (pick d (refused n s) (done u)))) .state ≡ s
+three true b c d l m n s t u r = refl
+three false true c d l m n s t u r = refl
+three false false true d l m n s t u r = absurd (r refl)
+three false false false true l m n s t u r = refl
+three false false false false l m n s t u r = absurd (r refl)
+
+pub refused-changes-nothing : Refused
+unfolding happens writeOf hostOf portWriteOf
+refused-changes-nothing (read o l) s r = refl
+refused-changes-nothing (write o l v) s r = two (badOffset o) (badLanes l) _ _ s (stepOf s o l v) r
+refused-changes-nothing (port-read p w) s r = refl
+refused-changes-nothing (port-write p w v) s r = three (badWidth w) (notOurs (s .latch) p w) (atLatch p w) (otherFunction (s .latch)) _ _ _ s (latched s v) _ r
+refused-changes-nothing (host-update o m v) s r = two (ltb 255 o) (notHost o m) _ _ s (hostStepOf s o m v) r
+refused-changes-nothing platform-reset s r = absurd (r refl)
+
+pub reads-change-nothing : Reads
+unfolding happens
+reads-change-nothing s a b = (refl, refl)
+
+-- ---- what a guest reads back
+
+-- in the word at a place each bit is the field's
+abbrev locked : Field → ℕ → Bool
+locked f at = allBelow 16 (λ (n : ℕ). sameClass (classOf (at + n / 8) (n % 8)) (once f))
+
+word-reads : (f : Field) (at : ℕ) → T (locked f at) → at + 1 < 256 → (es : List Event) → numberOf 16 (λ (n : ℕ). readBit (run es) (at + n / 8) (n % 8)) ≡ lockedWord f at es
+unfolding readBit
+word-reads f at t h es =
+    number-ext 16 (λ (n : ℕ). readBit (run es) (at + n / 8) (n % 8)) (λ (n : ℕ). overDefault (firstWrite f es) (at + n / 8) (n % 8))
+    (λ n k.
+    let is : classOf (at + n / 8) (n % 8) ≡ once f = same-once (classOf (at + n / 8) (n % 8)) f (is-true _ (below 16 (λ (n : ℕ). sameClass (classOf (at + n / 8) (n % 8)) (once f)) t n k)) in
+    rw (is, not-computed f) (once-history f (at + n / 8) (n % 8) (omega arith) (omega arith) is es))
+
+-- lanes 3 are the low word, lanes 12 the high
+low-lanes : (n : ℕ) → n < 16 → (eqb (bit 3 (n / 8)) 1 ≡ true) × (eqb (bit 12 (n / 8)) 1 ≡ false)
+low-lanes n h = let t = below 16 (λ (n : ℕ). both (eqb (bit 3 (n / 8)) 1) (not (eqb (bit 12 (n / 8)) 1))) tt n h in (is-true _ (both-left (eqb (bit 3 (n / 8)) 1) _ t), is-false _ (both-right (eqb (bit 3 (n / 8)) 1) _ t))
+
+high-lanes : (n : ℕ) → n < 16 → (eqb (bit 3 ((16 + n) / 8)) 1 ≡ false) × (eqb (bit 12 ((16 + n) / 8)) 1 ≡ true)
+high-lanes n h = let t = below 16 (λ (n : ℕ). both (not (eqb (bit 3 ((16 + n) / 8)) 1)) (eqb (bit 12 ((16 + n) / 8)) 1)) tt n h in (is-false _ (both-left (not (eqb (bit 3 ((16 + n) / 8)) 1)) _ t), is-true _ (both-right (not (eqb (bit 3 ((16 + n) / 8)) 1)) _ t))
+
+module _ (s : State) (o : ℕ) where
+  abbrev lane : ℕ → ℕ → ℕ
+  lane l n = pick (eqb (bit l (n / 8)) 1) (readBit s (o + n / 8) (n % 8)) 0
+
+  low-word : readValue s o 3 ≡ numberOf 16 (λ (n : ℕ). readBit s (o + n / 8) (n % 8))
+  unfolding readValue
+  low-word =
+      let high : numberOf 16 (λ (n : ℕ). lane 3 (16 + n)) ≡ 0 = number-ext 16 (λ (n : ℕ). lane 3 (16 + n)) (λ (n : ℕ). 0) (λ n h. rw (high-lanes n h .0)) ∙ number-none 16 in
+      let low : numberOf 16 (lane 3) ≡ numberOf 16 (λ (n : ℕ). readBit s (o + n / 8) (n % 8)) = number-ext 16 (lane 3) (λ (n : ℕ). readBit s (o + n / 8) (n % 8)) (λ n h. rw (low-lanes n h .0)) in
+      number-split 16 16 (lane 3) ∙ rw (high, low) (omega arith)
+
+  high-word : readValue s o 12 ≡ numberOf 16 (λ (n : ℕ). readBit s (o + 2 + n / 8) (n % 8)) * 2 ^ 16
+  unfolding readValue
+  high-word =
+      let low : numberOf 16 (lane 12) ≡ 0 = number-ext 16 (lane 12) (λ (n : ℕ). 0) (λ n h. rw (low-lanes n h .1)) ∙ number-none 16 in
+      let high : numberOf 16 (λ (n : ℕ). lane 12 (16 + n)) ≡ numberOf 16 (λ (n : ℕ). readBit s (o + 2 + n / 8) (n % 8)) =
+      number-ext 16 (λ (n : ℕ). lane 12 (16 + n)) (λ (n : ℕ). readBit s (o + 2 + n / 8) (n % 8)) (λ n h.
+      let i : o + (16 + n) / 8 ≡ o + 2 + n / 8 = omega arith in
+      let j : (16 + n) % 8 ≡ n % 8 = omega arith in
+      rw (high-lanes n h .1, i, j)) in
+      number-split 16 16 (lane 12) ∙ rw (high, low) (omega arith)
+
+svid2-locked : T (locked svid2 SVID2)
+unfolding rows rowAt classOf
+svid2-locked = tt
+
+sid2-locked : T (locked sid2 SID2)
+unfolding rows rowAt classOf
+sid2-locked = tt
+
+pub read-back-2C : Read-back-2C
+unfolding readOf
+read-back-2C es = ap ok (low-word (run es) SVID2 ∙ word-reads svid2 SVID2 svid2-locked (omega arith) es)
+
+pub read-back-2E : Read-back-2E
+unfolding readOf
+read-back-2E es = ap ok (high-word (run es) SVID2 ∙ ap (λ (x : ℕ). x * 2 ^ 16) (word-reads sid2 SID2 sid2-locked (omega arith) es))
+
+swsci-locked : classOf (SWSCI + 1) 7 ≡ once swsci15
+unfolding rows rowAt classOf
+swsci-locked = refl
+
+pub read-back-E8 : Read-back-E8
+unfolding readOf readBit
+read-back-E8 es = (readValue (run es) SWSCI 3, (refl, each-bit-read (run es) SWSCI 3 15 (omega arith) ∙ rw swsci-locked (once-history swsci15 (SWSCI + 1) 7 (omega arith) (omega arith) swsci-locked es)))
