@@ -60,7 +60,7 @@ store<2 false c code w i j x h = h
 
 pub stored<2 : (s : State) (o l v i j : ℕ) → storedBit s o l v i j < 2
 unfolding storedBit
-stored<2 s o l v i j = store<2 (enabled o l i) (s .closed) _ (byteFor o v i) i j (bit (byte s i) j) (bit<2 (byte s i) j)
+stored<2 s o l v i j = store<2 (enabled o l i) _ _ (byteFor o v i) i j (bit (byte s i) j) (bit<2 (byte s i) j)
 
 pub clear<2 : (e : Bool) (code i j x : ℕ) → x < 2 → clear e code i j x < 2
 unfolding clear

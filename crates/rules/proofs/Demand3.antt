@@ -1,16 +1,15 @@
 -- Demand 3 is proved, clause by clause; the statements are in specs/Demand3.antt.
-use mathlib.Core.Path.{_≡_, refl, sym, ap, subst, _∙_}
+use mathlib.Core.Path.{_≡_, refl, ap, _∙_}
 use mathlib.Core.List.{List}
 use mathlib.Core.Bool.{Bool, true, false, not}
 use Prim.Native.Nat.{ℕ, _+_, _*_, _/_, _%_, _^_, _<_}
 use native.Mathlib.Omega.{arith}
-use native.Mathlib.Nat.{div-one}
 use lib.Dec.{T, eqb, ltb}
 use borrow.Author.Tests.{eqb-false}
 use Rattle.bits.specs.Bits.{bit, numberOf}
 use Rattle.bits.specs.Choice.{pick, both, allBelow}
-use Rattle.bits.proofs.Laws.{number-ext, number-bits, number-none, number-split}
-use Rattle.bits.proofs.Below.{below, both-left, both-right, is-true, is-false, pick-has}
+use Rattle.bits.proofs.Laws.{number-ext, number-none, number-split}
+use Rattle.bits.proofs.Below.{below, both-left, both-right, is-true, is-false}
 use Rattle.answer.specs.Refusals.{ok}
 use Rattle.map.specs.Registers.{CAPPOINT, CAPL, SVID2, SID2, SWSCI}
 use Rattle.map.specs.Class.{Field, svid2, sid2, swsci15, once, sameClass}
@@ -37,17 +36,13 @@ write-once es f i j h k is = once-history f i j h k is es
 pub read-only : Read-only
 read-only es i j h k fixed = fixed-history i j h k fixed es
 
-pointer< : (s : State) → pointer s < 2 ^ 8
-unfolding pointer
-pointer< s = pick-has (λ (x : ℕ). x < 2 ^ 8) (eqb (bit (byte s CAPL) 0) 1) 0xD0 0x90 (omega arith) (omega arith)
-
-pointer-read : (s : State) → readOf s CAPPOINT 1 ≡ ok (pointer s)
-unfolding readOf readValue readBit numberOf rows rowAt classOf
-pointer-read s = ap ok (number-bits 8 (pointer s) (pointer< s))
+pointer-read : (s : State) (b : Bool) → eqb (bit (byte s CAPL) 0) 1 ≡ b → readOf s CAPPOINT 1 ≡ ok (pick b 0xD0 0x90)
+unfolding readOf readValue readBit pointer numberOf rows rowAt classOf
+pointer-read s true e = rw e
+pointer-read s false e = rw e
 
 pub list-pointer : Computed
-unfolding pointer
-list-pointer es = pointer-read (run es)
+list-pointer es = pointer-read (run es) _ refl
 
 pub aperture : Aperture
 aperture es = (eqb-false _ 2 (never-10 es), aligned es)

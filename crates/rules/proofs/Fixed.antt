@@ -3,24 +3,22 @@ use mathlib.Core.Path.{_≡_, refl, sym, ap, subst, _∙_}
 use mathlib.Core.List.{List, [], _∷_}
 use mathlib.Core.Bool.{Bool, true, false, not}
 use Prim.Native.Nat.{ℕ, _<_}
-use native.Mathlib.Omega.{arith}
 use lib.Dec.{T, eqb, ltb, eqb→eq}
 use Rattle.bits.specs.Bits.{bit}
 use Rattle.bits.specs.Choice.{pick, both, either, allBelow}
-use Rattle.bits.proofs.Below.{below, both-left, both-right, both-off, is-false, other, either-left, either-right, any-none}
+use Rattle.bits.proofs.Below.{below, both-left, both-right, both-off, is-false, other, either-left, either-right}
 use borrow.Author.Tests.{eqb-true}
 use Rattle.map.specs.Class.{stores, isHost, resetStart, sameClass}
 use Rattle.map.specs.Map.{rows, rowAt, classOf, defaults, defaultAt}
 use Rattle.rules.specs.declared.State.{State}
 use Rattle.rules.specs.Access.{byte}
-use Rattle.rules.specs.Guest.{stepOf}
 use Rattle.rules.specs.Host.{notHost, hostBit, hostStepOf, hostOf}
 use Rattle.rules.specs.Fresh.{freshOf}
 use Rattle.rules.specs.Events.{Event, read, write, port-read, port-write, host-update, platform-reset, happens, runFrom, run}
 use Rattle.rules.specs.History.{isReset, anyReset, since, GuestWrite, none, at, guestWrite, Given, nothing, given, _orElse_, gives, lastGiven, lastUpdate, orDefault}
 use Rattle.rules.proofs.EachBit.{bit-after, bit-hosted, host-state}
 use Rattle.rules.proofs.Kept.{unstored, mask-off, host-kept}
-use Rattle.rules.proofs.Runs.{run-since, since-none, performed, write-effect, port-effect, always, withLatch}
+use Rattle.rules.proofs.Runs.{run-since, since-none, performed, write-effect, port-effect, always}
 
 -- the bit that starts a function reset has default 0, and is not the host's
 start-at : ℕ → Bool

@@ -1,7 +1,7 @@
 -- When a bit stays: under a store, a clearing, a function reset, and a host update.
 use mathlib.Core.Path.{_≡_, refl, sym, ap, subst, _∙_}
 use mathlib.Core.Bool.{Bool, true, false, not}
-use Prim.Native.Nat.{ℕ, _<_, _≤_}
+use Prim.Native.Nat.{ℕ, _<_}
 use lib.Dec.{T, eqb}
 use borrow.Author.Tests.{eqb-true}
 use Rattle.bits.specs.Bits.{bit}
@@ -9,7 +9,7 @@ use Rattle.bits.specs.Choice.{pick, both}
 use Rattle.bits.proofs.Below.{any-none}
 use Rattle.map.specs.Registers.{MSAC}
 use Rattle.map.specs.Class.{Class, readOnly, host, guest, guestF, once, sizeCode, aperture, power, computed, resetStart, stores, hasF, isHost, sameClass}
-use Rattle.map.specs.Map.{classOf, defaultAt}
+use Rattle.map.specs.Map.{classOf}
 use Rattle.rules.specs.declared.State.{State}
 use Rattle.rules.specs.declared.Closed.{Closed}
 use Rattle.rules.specs.Access.{byte, enabled, byteFor}

@@ -8,3 +8,4 @@ pub mod Fixed
 pub mod Size
 pub mod Aligned
 pub mod Demand3
+pub mod Witness

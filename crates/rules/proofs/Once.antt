@@ -8,13 +8,13 @@ use native.Mathlib.Omega.{arith}
 use lib.Dec.{T, eqb, ltb, leb}
 use Rattle.bits.specs.Bits.{bit}
 use Rattle.bits.specs.Choice.{pick, both, either}
-use Rattle.bits.proofs.Below.{both-right, either-left, either-right, pick-has, false-unless, any-has, is-true}
+use Rattle.bits.proofs.Below.{both-right, either-left, either-right, false-unless, any-has, is-true}
 use Rattle.map.specs.Registers.{MSAC}
 use Rattle.map.specs.Class.{Field, svid2, sid2, swsci15, once, resetStart, sameClass}
 use Rattle.map.specs.Map.{classOf, defaultAt}
 use Rattle.rules.specs.declared.State.{State}
 use Rattle.rules.specs.Access.{byte, enabled, byteFor}
-use Rattle.rules.specs.Guest.{closed, sizeOf, takenBy, takes, store, storedBit, bitAfter, ofField, touches, closedAfter, stepOf}
+use Rattle.rules.specs.Guest.{closed, sizeOf, takenBy, takes, store, storedBit, ofField, touches, closedAfter, stepOf}
 use Rattle.rules.specs.Host.{notHost, hostStepOf, hostOf}
 use Rattle.rules.specs.Fresh.{freshOf}
 use Rattle.rules.specs.Events.{Event, read, write, port-read, port-write, host-update, platform-reset, happens, runFrom, run}

@@ -1,17 +1,16 @@
 -- Events and runs: what an event comes to, the events since the last platform reset, and what every run keeps.
-use mathlib.Core.Path.{_≡_, refl, sym, subst, ap, _∙_}
+use mathlib.Core.Path.{_≡_, refl, sym, subst, _∙_}
 use mathlib.Core.List.{List, [], _∷_}
 use mathlib.Core.Bool.{Bool, true, false, not}
-use Prim.Native.Nat.{ℕ, _-_, _≤_}
+use Prim.Native.Nat.{ℕ, _-_}
 use lib.Dec.{T, eqb, ltb, eqb→eq}
-use borrow.Author.Tests.{eqb-true, ltb-false}
-use Rattle.bits.specs.Choice.{pick, both, either}
-use Rattle.bits.proofs.Below.{pick-has, both-right}
+use Rattle.bits.specs.Choice.{pick, either}
+use Rattle.bits.proofs.Below.{both-right}
 use Rattle.answer.specs.Refusals.{WIDTH, NOT-OURS, OTHER-FUNCTION}
 use Rattle.rules.specs.declared.State.{State}
-use Rattle.rules.specs.Access.{badOffset, badLanes, Outcome, done, refused}
+use Rattle.rules.specs.Access.{badOffset, badLanes, done, refused}
 use Rattle.rules.specs.Guest.{stepOf, writeOf}
-use Rattle.rules.specs.Host.{notHost, hostStepOf, hostOf}
+use Rattle.rules.specs.Host.{notHost, hostStepOf}
 use Rattle.rules.specs.Fresh.{freshOf}
 use Rattle.rules.specs.Ports.{ADDRESS, DATA, badWidth, atLatch, notOurs, otherFunction, latchOf, latched, dwordOf, portLanes, placed, portWriteOf}
 use Rattle.rules.specs.Events.{Event, read, write, port-read, port-write, host-update, platform-reset, happens, runFrom, run}

@@ -2,7 +2,7 @@
 use mathlib.Core.Path.{_≡_, refl, sym, ap, _∙_}
 use mathlib.Core.List.{List}
 use mathlib.Core.Bool.{Bool, true, false, not}
-use Prim.Native.Nat.{ℕ, _+_, _*_, _/_, _%_, _^_, _<_}
+use Prim.Native.Nat.{ℕ, _+_, _*_, _^_, _<_}
 use native.Mathlib.Omega.{arith}
 use lib.Dec.{T, eqb}
 use Rattle.bits.specs.Bits.{bit, numberOf, byteOf}
@@ -23,7 +23,7 @@ use Rattle.rules.specs.Events.{Event, run}
 use Rattle.rules.proofs.Access.{after<2, stored<2, outside, no-aperture}
 use Rattle.rules.proofs.EachBit.{bit-after, bit-hosted}
 use Rattle.rules.proofs.Kept.{only-stored, stored-off, host-kept}
-use Rattle.rules.proofs.Runs.{always, withLatch}
+use Rattle.rules.proofs.Runs.{always}
 
 -- ---- MSAC after a write and after a host update
 

@@ -1,10 +1,10 @@
 -- Demand 3, clause by clause: what holds after every run of guest accesses, port accesses, host updates and platform resets from the fresh state.
 use mathlib.Core.Path.{_≡_}
 use mathlib.Core.List.{List}
-use mathlib.Core.Bool.{Bool, true, false}
+use mathlib.Core.Bool.{false}
 use Prim.Native.Nat.{ℕ, _+_, _*_, _/_, _%_, _^_, _<_}
 use Rattle.bits.specs.Bits.{bit, numberOf}
-use Rattle.bits.specs.Choice.{if_then_else_, _is_, _<?_}
+use Rattle.bits.specs.Choice.{if_then_else_, _is_}
 use Rattle.answer.specs.Refusals.{ok}
 use Rattle.map.specs.Registers.{SVID2, SID2, CAPPOINT, CAPL, MSAC, SWSCI}
 use Rattle.map.specs.Class.{Field, svid2, sid2, swsci15, once, stores}

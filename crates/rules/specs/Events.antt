@@ -1,7 +1,7 @@
 -- What can happen to the twin, with any arguments, what is said to it, and what a run of events leaves.
 use mathlib.Core.List.{List, [], _∷_}
 use Prim.Native.Nat.{ℕ}
-use Rattle.answer.specs.Refusals.{Reply, ok}
+use Rattle.answer.specs.Refusals.{Reply}
 use Rattle.rules.specs.declared.State.{State}
 use Rattle.rules.specs.Access.{Outcome, done}
 use Rattle.rules.specs.Guest.{writeOf}

@@ -1,0 +1,98 @@
+-- No clause of demand 3 is empty: for each a run, computed, in which its case happens.
+use mathlib.Core.Path.{_≡_, refl}
+use mathlib.Core.List.{List, [], _∷_}
+use Rattle.bits.specs.Bits.{numberOf}
+use Rattle.answer.specs.Refusals.{ok, no, OFFSET, NOT-HOST, OTHER-FUNCTION}
+use Rattle.map.specs.Registers.{VID2, DID2, GMADR, SVID2, CAPPOINT, HSRW, AFCTL, SWSCI}
+use Rattle.map.specs.Class.{svid2, sid2, swsci15}
+use Rattle.map.specs.Map.{rows, rowAt, classOf, defaults}
+use Rattle.rules.specs.Access.{enabled, byteFor}
+use Rattle.rules.specs.Guest.{bitsTaken, takenBy, takes, store, clear, reset, starts, storedBit, sizeAfter, bitAfter, ofField, touches, closedAfter, stepOf, writeOf}
+use Rattle.rules.specs.Read.{pointer, readBit, readValue, readOf}
+use Rattle.rules.specs.Host.{notHost, hostBit, hostStepOf, hostOf}
+use Rattle.rules.specs.Fresh.{freshOf}
+use Rattle.rules.specs.Ports.{notOurs, otherFunction, latchOf, portLanes, portWriteOf}
+use Rattle.rules.specs.Claims.{base, apertureBase}
+use Rattle.rules.specs.Events.{Event, write, port-write, host-update, platform-reset, happens, runFrom, run}
+use Rattle.rules.specs.History.{anyReset, since, none, at, guestWrite, firstFrom, firstWrite, nothing, given, gives, lastGiven, lastUpdate}
+use Rattle.rules.specs.Demand3.{codeOf}
+
+-- ---- the runs
+
+-- SVID2 in halves, with a function reset in between, and a second write; SID2 is never written
+abbrev halves : List Event
+halves = write SVID2 1 0x34 ∷ write AFCTL 1 1 ∷ write SVID2 2 0x1200 ∷ write SVID2 3 0xFFFF ∷ []
+
+-- a platform reset opens both fields again; a write through the port pair closes them, and a later one finds them closed
+abbrev ports : List Event
+ports = write SVID2 15 0x11112222 ∷ platform-reset ∷ port-write 0xCF8 4 0x8000102C ∷ port-write 0xCFC 4 0xABCD1234 ∷ write SVID2 15 0 ∷ []
+
+-- SWSCI bit 15 is closed by a write of its default; bits 14:0 stay open
+abbrev default : List Event
+default = write SWSCI 2 0 ∷ write SWSCI 15 0x8001 ∷ []
+
+-- DID2 is updated twice, the second time in its low bits only; VID2 is neither the guest's nor the host's
+abbrev twice : List Event
+twice = host-update DID2 0xFF 0x11 ∷ write VID2 15 0xFFFFFFFF ∷ host-update DID2 0x0F 0x02 ∷ host-update VID2 0x01 0 ∷ []
+
+-- and a platform reset takes the updates back
+abbrev taken-back : List Event
+taken-back = host-update DID2 0xFF 0x11 ∷ platform-reset ∷ []
+
+-- CAPL's bit
+abbrev listed : List Event
+listed = write 0x7C 8 0x01000000 ∷ []
+
+-- a base of ones, then 512 MB, which takes two bits; a write of code 10 keeps 11
+abbrev enlarged : List Event
+enlarged = write GMADR 15 0xFFFFFFFF ∷ write HSRW 4 0x00060000 ∷ write HSRW 4 0x00040000 ∷ write GMADR 15 0xFFFFFFFF ∷ []
+
+-- ---- what they come to
+
+pub record Witnessed : Type 0 where
+  -- 1. write-once
+  pub halves-first : firstWrite svid2 halves ≡ at SVID2 1 0x34
+  pub halves-read : readOf (run halves) SVID2 3 ≡ ok 0x0034
+  pub halves-none : firstWrite sid2 halves ≡ none
+  pub ports-first : firstWrite sid2 ports ≡ at SVID2 15 0xABCD1234
+  pub ports-read : readOf (run ports) SVID2 15 ≡ ok 0xABCD1234
+  pub default-first : firstWrite swsci15 default ≡ at SWSCI 2 0
+  pub default-read : readOf (run default) SWSCI 15 ≡ ok 0x00000001
+  -- 2. read-only
+  pub twice-low : lastUpdate DID2 1 twice ≡ given 1
+  pub twice-high : lastUpdate DID2 4 twice ≡ given 1
+  pub twice-never : lastUpdate VID2 0 twice ≡ nothing
+  pub twice-read : readOf (run twice) VID2 15 ≡ ok 0x01128086
+  pub taken-back-read : readOf (run taken-back) VID2 15 ≡ ok 0x01528086
+  -- 3. the list pointer
+  pub listed-read : readOf (run listed) CAPPOINT 1 ≡ ok 0xD0
+  -- 4. the aperture
+  pub enlarged-code : codeOf enlarged ≡ 3
+  pub enlarged-base : apertureBase (run enlarged) ≡ 0xE0000000
+  -- 5. refused events
+  pub offset-refused : happens (write 0x2D 15 1) freshOf .reply ≡ no OFFSET
+  pub update-refused : happens (host-update VID2 0x01 0) freshOf .reply ≡ no NOT-HOST
+  pub port-refused : happens (port-write 0xCFC 4 1) (run (port-write 0xCF8 4 0x80001800 ∷ [])) .reply ≡ no OTHER-FUNCTION
+
+pub witnessed : Witnessed
+unfolding numberOf rows rowAt classOf defaults enabled byteFor bitsTaken takenBy takes store clear reset starts storedBit sizeAfter bitAfter ofField touches closedAfter stepOf writeOf pointer readBit readValue readOf notHost hostBit hostStepOf hostOf freshOf notOurs otherFunction latchOf portLanes portWriteOf base happens runFrom anyReset since guestWrite firstFrom gives lastGiven
+witnessed = record {
+  halves-first = refl;
+  halves-read = refl;
+  halves-none = refl;
+  ports-first = refl;
+  ports-read = refl;
+  default-first = refl;
+  default-read = refl;
+  twice-low = refl;
+  twice-high = refl;
+  twice-never = refl;
+  twice-read = refl;
+  taken-back-read = refl;
+  listed-read = refl;
+  enlarged-code = refl;
+  enlarged-base = refl;
+  offset-refused = refl;
+  update-refused = refl;
+  port-refused = refl;
+}
