@@ -1,0 +1,104 @@
+-- Every starred example of the paper holds of the rules: one test that antt computes over the whole table, and one lemma from the test to the claim.
+use mathlib.Core.Path.{_≡_, refl}
+use mathlib.Core.List.{List, [], _∷_}
+use mathlib.Core.Bool.{Bool, true}
+use Prim.Native.Nat.{ℕ, zero, suc}
+use lib.Dec.{T, eqb→eq}
+use lib.ListN.{length}
+use Rattle.bits.specs.Bits.{numberOf}
+use Rattle.bits.specs.Choice.{_and_, _is_}
+use Rattle.bits.proofs.Below.{both-left, both-right}
+use Rattle.answer.specs.Refusals.{Reply}
+use Rattle.answer.proofs.Agree.{one-answer}
+use Rattle.map.specs.Map.{rows, rowAt, classOf, defaults}
+use Rattle.rules.specs.declared.State.{State}
+use Rattle.rules.specs.Access.{enabled, byteFor}
+use Rattle.rules.specs.Guest.{bitsTaken, takenBy, takes, store, clear, reset, starts, storedBit, sizeAfter, bitAfter, ofField, touches, closedAfter, stepOf, writeOf}
+use Rattle.rules.specs.Read.{pointer, readBit, readValue, readOf}
+use Rattle.rules.specs.Fresh.{freshOf}
+use Rattle.rules.specs.Events.{happens}
+use Rattle.probe.specs.Probe.{Reply as Probed, Kind, none, io, memory32, memory64, probeOf}
+use Rattle.examples.specs.Examples.{Step, Example, session, probe, examples, Answered, Holds, Each}
+
+-- ---- two replies, told apart by numbers
+
+abbrev sameReply : Reply → Reply → Bool
+sameReply a b = a .number is b .number and a .value is b .value
+
+same-reply : (a b : Reply) → T (sameReply a b) → a ≡ b
+same-reply a b t =
+    let n : a .number ≡ b .number = eqb→eq _ _ (both-left _ _ t) in
+    let v : a .value ≡ b .value = eqb→eq _ _ (both-right _ _ t) in
+    cc
+
+abbrev numbered : Kind → ℕ
+numbered none = 0
+numbered io = 1
+numbered memory32 = 2
+numbered memory64 = 3
+
+-- the kind of a number
+abbrev kindAt : ℕ → Kind
+kindAt zero = none
+kindAt (suc zero) = io
+kindAt (suc (suc zero)) = memory32
+kindAt (suc (suc (suc n))) = memory64
+
+heard : (k : Kind) → kindAt (numbered k) ≡ k
+heard none = refl
+heard io = refl
+heard memory32 = refl
+heard memory64 = refl
+
+abbrev sameProbed : Probed → Probed → Bool
+sameProbed a b = a .number is b .number and numbered (a .kind) is numbered (b .kind) and a .exponent is b .exponent
+
+same-probed : (a b : Probed) → T (sameProbed a b) → a ≡ b
+same-probed a b t =
+    let r : T (numbered (a .kind) is numbered (b .kind) and a .exponent is b .exponent) = both-right _ _ t in
+    let n : a .number ≡ b .number = eqb→eq _ _ (both-left _ _ t) in
+    let k : a .kind ≡ b .kind = one-answer numbered kindAt heard _ _ (eqb→eq _ _ (both-left _ _ r)) refl in
+    let e : a .exponent ≡ b .exponent = eqb→eq _ _ (both-right _ _ r) in
+    cc
+
+-- ---- the test, and what it shows at each row
+
+answered : State → List Step → Bool
+answered s [] = true
+answered s (t ∷ ts) = sameReply (happens (t .event) s .reply) (t .reply) and answered (happens (t .event) s .state) ts
+
+holds : Example → Bool
+holds (session ts) = answered freshOf ts
+holds (probe low high r) = sameProbed (probeOf low high) r
+
+all : List Example → Bool
+all [] = true
+all (r ∷ rs) = holds r and all rs
+
+steps : (s : State) (ts : List Step) → T (answered s ts) → Answered s ts
+unfolding answered Answered
+steps s [] t = tt
+steps s (x ∷ xs) t = (same-reply _ _ (both-left _ _ t), steps _ xs (both-right _ _ t))
+
+row : (r : Example) → T (holds r) → Holds r
+unfolding holds Holds
+row (session ts) t = steps freshOf ts t
+row (probe low high r) t = same-probed _ _ t
+
+each : (rs : List Example) → T (all rs) → Each Holds rs
+unfolding all Each
+each [] t = tt
+each (r ∷ rs) t = (row r (both-left _ _ t), each rs (both-right _ _ t))
+
+-- ---- the claim
+
+passes : T (all examples)
+unfolding all holds answered examples numberOf rows rowAt classOf defaults enabled byteFor bitsTaken takenBy takes store clear reset starts storedBit sizeAfter bitAfter ofField touches closedAfter stepOf writeOf pointer readBit readValue readOf freshOf happens probeOf
+passes = tt
+
+pub examples-hold : Each Holds examples
+examples-hold = each examples passes
+
+pub twelve : length examples ≡ 12
+unfolding examples
+twelve = refl
