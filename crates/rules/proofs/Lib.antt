@@ -1,5 +1,6 @@
 pub mod Access
 pub mod EachBit
+pub mod NoLanes
 pub mod One
 pub mod Kept
 pub mod Runs

@@ -1,0 +1,51 @@
+-- Lanes 0 is accepted, reads 0, and changes nothing.
+use mathlib.Core.Path.{_≡_, refl, sym, ap, _∙_}
+use mathlib.Core.Bool.{Bool, true, false}
+use Prim.Native.Nat.{ℕ, _+_, _-_, _/_, _%_, _^_, _<_}
+use native.Mathlib.Omega.{arith}
+use lib.Dec.{eqb, leb, ltb}
+use lib.ListN.{length}
+use Rattle.bits.specs.Bits.{bit, byteOf}
+use Rattle.bits.specs.Choice.{pick, both}
+use Rattle.bits.proofs.Laws.{number-ext, number-bits, number-none, bit-zero}
+use Rattle.bits.proofs.Below.{both-off, none-any}
+use Rattle.bits.proofs.Places.{as-bytes}
+use Rattle.map.specs.Registers.{MSAC, AFCTL}
+use Rattle.map.specs.Class.{Field}
+use Rattle.rules.specs.declared.State.{State}
+use Rattle.rules.specs.declared.Closed.{Closed}
+use Rattle.rules.specs.Access.{byte, enabled}
+use Rattle.rules.specs.Guest.{ofField, touches, closedAfter, store, clear, reset, starts, storedBit, bitAfter, stepOf}
+use Rattle.rules.specs.Read.{readBit, undriven, readValue}
+
+-- ---- a read
+
+pub no-lanes-read : (s : State) (o : ℕ) → readValue s o 0 ≡ 0
+unfolding readValue
+no-lanes-read s o = number-ext 32 (λ (n : ℕ). pick (eqb (bit 0 (n / 8)) 1) (readBit s (o + n / 8) (n % 8)) undriven) (λ (n : ℕ). 0) (λ n h. rw (bit-zero (n / 8))) ∙ number-none 32
+
+-- ---- a write
+
+none-enabled : (o i : ℕ) → enabled o 0 i ≡ false
+unfolding enabled
+none-enabled o i = rw (bit-zero (i - o), both-off (ltb i (o + 4)), both-off (leb o i))
+
+none-touched : (o : ℕ) (f : Field) → touches o 0 f ≡ false
+unfolding touches
+none-touched o f = none-any 4 (λ (k : ℕ). both (eqb (bit 0 k) 1) (ofField f (o + k))) (λ k h. rw (bit-zero k))
+
+-- each bit stays
+pub no-lanes-bit : (s : State) (o v i j : ℕ) → bitAfter s o 0 v i j ≡ bit (byte s i) j
+unfolding bitAfter storedBit store clear reset starts
+no-lanes-bit s o v i j = rw (none-enabled o AFCTL, none-enabled o MSAC, none-enabled o i)
+
+no-lanes-closed : (o : ℕ) (c : Closed) → closedAfter o 0 c ≡ c
+unfolding closedAfter
+no-lanes-closed o c = simp none-touched
+
+-- so does the state, whose bytes are 256 bytes
+pub no-lanes-write : (s : State) (o v : ℕ) → length (s .bytes) ≡ 256 → ((i : ℕ) → byte s i < 2 ^ 8) → stepOf s o 0 v ≡ s
+unfolding stepOf
+no-lanes-write s o v n b =
+    let same = as-bytes (s .bytes) (λ (i : ℕ). byteOf (bitAfter s o 0 v i)) n (λ i h. sym (number-bits 8 (byte s i) (b i)) ∙ number-ext 8 (bit (byte s i)) (bitAfter s o 0 v i) (λ j k. sym (no-lanes-bit s o v i j))) in
+    rw (← same, no-lanes-closed o (s .closed))
