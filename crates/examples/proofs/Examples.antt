@@ -4,6 +4,7 @@ use mathlib.Core.List.{List, [], _∷_}
 use mathlib.Core.Bool.{Bool, true}
 use Prim.Native.Nat.{ℕ, zero, suc}
 use lib.Dec.{T, eqb→eq}
+use lib.Count.{trailingZeros}
 use lib.ListN.{length}
 use Rattle.bits.specs.Bits.{numberOf}
 use Rattle.bits.specs.Choice.{_and_, _is_}
@@ -27,9 +28,11 @@ sameReply a b = a .number is b .number and a .value is b .value
 
 same-reply : (a b : Reply) → T (sameReply a b) → a ≡ b
 same-reply a b t =
-    let n : a .number ≡ b .number = eqb→eq _ _ (both-left _ _ t) in
-    let v : a .value ≡ b .value = eqb→eq _ _ (both-right _ _ t) in
-    cc
+    let p = a .number is b .number in
+    let q = a .value is b .value in
+    let number : a .number ≡ b .number = eqb→eq _ _ (both-left p q t) in
+    let value : a .value ≡ b .value = eqb→eq _ _ (both-right p q t) in
+    λ i. record { number = number i; value = value i }
 
 abbrev numbered : Kind → ℕ
 numbered none = 0
@@ -55,11 +58,14 @@ sameProbed a b = a .number is b .number and numbered (a .kind) is numbered (b .k
 
 same-probed : (a b : Probed) → T (sameProbed a b) → a ≡ b
 same-probed a b t =
-    let r : T (numbered (a .kind) is numbered (b .kind) and a .exponent is b .exponent) = both-right _ _ t in
-    let n : a .number ≡ b .number = eqb→eq _ _ (both-left _ _ t) in
-    let k : a .kind ≡ b .kind = one-answer numbered kindAt heard _ _ (eqb→eq _ _ (both-left _ _ r)) refl in
-    let e : a .exponent ≡ b .exponent = eqb→eq _ _ (both-right _ _ r) in
-    cc
+    let p = a .number is b .number in
+    let q = numbered (a .kind) is numbered (b .kind) in
+    let r = a .exponent is b .exponent in
+    let rest : T (q and r) = both-right p (q and r) t in
+    let number : a .number ≡ b .number = eqb→eq _ _ (both-left p (q and r) t) in
+    let kind : a .kind ≡ b .kind = one-answer numbered kindAt heard _ _ (eqb→eq _ _ (both-left q r rest)) refl in
+    let exponent : a .exponent ≡ b .exponent = eqb→eq _ _ (both-right q r rest) in
+    λ i. record { number = number i; kind = kind i; exponent = exponent i }
 
 -- ---- the test, and what it shows at each row
 
@@ -75,29 +81,33 @@ all : List Example → Bool
 all [] = true
 all (r ∷ rs) = holds r and all rs
 
-steps : (s : State) (ts : List Step) → T (answered s ts) → Answered s ts
+steps-answered : (s : State) (ts : List Step) → T (answered s ts) → Answered s ts
 unfolding answered Answered
-steps s [] t = tt
-steps s (x ∷ xs) t = (same-reply _ _ (both-left _ _ t), steps _ xs (both-right _ _ t))
+steps-answered s [] t = tt
+steps-answered s (x ∷ xs) t =
+    let o = happens (x .event) s in
+    let p = sameReply (o .reply) (x .reply) in
+    let q = answered (o .state) xs in
+    (same-reply _ _ (both-left p q t), steps-answered (o .state) xs (both-right p q t))
 
-row : (r : Example) → T (holds r) → Holds r
+row-holds : (r : Example) → T (holds r) → Holds r
 unfolding holds Holds
-row (session ts) t = steps freshOf ts t
-row (probe low high r) t = same-probed _ _ t
+row-holds (session ts) t = steps-answered freshOf ts t
+row-holds (probe low high r) t = same-probed _ _ t
 
-each : (rs : List Example) → T (all rs) → Each Holds rs
+rows-hold : (rs : List Example) → T (all rs) → Each Holds rs
 unfolding all Each
-each [] t = tt
-each (r ∷ rs) t = (row r (both-left _ _ t), each rs (both-right _ _ t))
+rows-hold [] t = tt
+rows-hold (r ∷ rs) t = (row-holds r (both-left (holds r) (all rs) t), rows-hold rs (both-right (holds r) (all rs) t))
 
 -- ---- the claim
 
 passes : T (all examples)
-unfolding all holds answered examples numberOf rows rowAt classOf defaults enabled byteFor bitsTaken takenBy takes store clear reset starts storedBit sizeAfter bitAfter ofField touches closedAfter stepOf writeOf pointer readBit readValue readOf freshOf happens probeOf
+unfolding all holds answered examples numberOf rows rowAt classOf defaults enabled byteFor bitsTaken takenBy takes store clear reset starts storedBit sizeAfter bitAfter ofField touches closedAfter stepOf writeOf pointer readBit readValue readOf freshOf happens probeOf trailingZeros
 passes = tt
 
 pub examples-hold : Each Holds examples
-examples-hold = each examples passes
+examples-hold = rows-hold examples passes
 
 pub twelve : length examples ≡ 12
 unfolding examples

@@ -1,0 +1,29 @@
+//! An independent second program for the device twin.
+//!
+//! It is written from the paper `01-scope.md` and from the table of console
+//! lines alone, so that a misreading of the paper shows when its answers are
+//! compared with those of the proved program. It shares no code with it and
+//! keeps its state in another way: one class and one value for each of the
+//! 2,048 bits, a flag for each write-once field, and the latch.
+//!
+//! Binaries:
+//!
+//! - `second [player|console]`: session lines in, answers out;
+//! - `sessions SEED LINES [player|console]`: makes session text;
+//! - `trace`: turns a recorded port trace into console lines;
+//! - `compare`: runs another program on the same input and compares.
+
+#![forbid(unsafe_code)]
+
+pub mod difference;
+pub mod line;
+pub mod malform;
+pub mod map;
+pub mod player;
+pub mod probe;
+pub mod refusal;
+pub mod rng;
+pub mod session;
+pub mod trace;
+pub mod twin;
+pub mod walk;
