@@ -33,15 +33,25 @@ pub const LONGEST_LINE: usize = "S llllllll hhhhhhhh".len();
 /// A line of a known form.
 #[derive(Clone, Copy, Debug, PartialEq, Eq)]
 pub enum Command {
+    /// `W oo l vvvvvvvv`: a guest write.
     Write { offset: u32, lanes: u32, value: u32 },
+    /// `R oo l`: a guest read.
     Read { offset: u32, lanes: u32 },
+    /// `H oo mm vv`: a host update.
     Host { offset: u32, mask: u8, value: u8 },
+    /// `P`: a platform reset.
     PlatformReset,
+    /// `O pppp w vvvvvvvv`: a port write.
     PortWrite { port: u16, width: u32, value: u32 },
+    /// `I pppp w`: a port read.
     PortRead { port: u16, width: u32 },
+    /// `A aaaaaaaaaaaaaaaa`: the claim of a memory address.
     ClaimMemory { address: u64 },
+    /// `N pppp`: the claim of an I/O port.
     ClaimPort { port: u16 },
+    /// `S llllllll hhhhhhhh`: a size probe.
     Probe { low: u32, high: u32 },
+    /// `K ii`: a capability walk.
     Walk { wanted: u8 },
 }
 
@@ -151,11 +161,17 @@ fn command(letter: u8, numbers: &[u64]) -> Option<Command> {
 /// The answer to a line.
 #[derive(Clone, Copy, Debug, PartialEq, Eq)]
 pub enum Answer {
+    /// Accepted, with nothing to tell.
     Done,
+    /// A read value.
     Value(u32),
+    /// Which window claims.
     Claim(Claim),
+    /// The range probed.
     Range(Range),
+    /// How a walk ended.
     Walk(Walk),
+    /// Refused.
     Refused(Refusal),
 }
 

@@ -10,8 +10,8 @@ impl Rng {
         Rng(seed)
     }
 
-    /// The next 64 bits.
-    pub fn next(&mut self) -> u64 {
+    /// Any qword, the next 64 bits.
+    pub fn qword(&mut self) -> u64 {
         self.0 = self.0.wrapping_add(0x9E37_79B9_7F4A_7C15);
         let mut mixed = self.0;
         mixed = (mixed ^ mixed >> 30).wrapping_mul(0xBF58_476D_1CE4_E5B9);
@@ -21,7 +21,7 @@ impl Rng {
 
     /// A number below `end`, which isn't 0.
     pub fn below(&mut self, end: u64) -> u64 {
-        (self.next() >> 16) % end
+        (self.qword() >> 16) % end
     }
 
     /// An index below `end`, which isn't 0.
@@ -41,12 +41,12 @@ impl Rng {
 
     /// Any byte.
     pub fn byte(&mut self) -> u8 {
-        self.next() as u8
+        self.qword() as u8
     }
 
     /// Any dword.
     pub fn dword(&mut self) -> u32 {
-        self.next() as u32
+        self.qword() as u32
     }
 
     /// A dword of a kind that tends to matter: all bits, none, one, all but

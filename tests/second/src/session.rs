@@ -18,6 +18,9 @@ use crate::twin::Twin;
 const LINES_TO_A_PLATFORM_RESET: u64 = 200;
 /// One line in so many is spoiled.
 const LINES_TO_A_SPOILED: u64 = 12;
+/// Sweeps of host bits start so many bytes further on for each seed, so that
+/// together a few seeds in a row sweep all bytes.
+const SWEPT_BY_A_SEED: u64 = 25;
 
 /// Registers that a function reset returns to default, by dword.
 const RESET_DWORDS: &[u32] = &[
@@ -58,6 +61,8 @@ pub struct Session {
     mode: Mode,
     twin: Twin,
     steps: VecDeque<Step>,
+    /// The byte whose bits are tried next, one by one, with host updates.
+    swept: u8,
 }
 
 impl Session {
@@ -68,6 +73,7 @@ impl Session {
             mode,
             twin: Twin::fresh(),
             steps: VecDeque::new(),
+            swept: seed.wrapping_mul(SWEPT_BY_A_SEED) as u8,
         }
     }
 
@@ -131,7 +137,7 @@ impl Session {
             7 => b"P".to_vec(),
             8 => port_write(0x0CF8, 4, latch(rng)),
             9 => port_read(0x0CFC, 4),
-            10 => claim_memory(rng.next()),
+            10 => claim_memory(rng.qword()),
             11 => claim_port(rng.dword() as u16),
             12 => probe(rng.telling_dword(), rng.telling_dword()),
             _ => walk(rng.byte()),
@@ -194,7 +200,7 @@ impl Session {
         if self.mode == Mode::Console && self.rng.one_in(2) {
             return self.console_scene();
         }
-        match self.rng.below(60) {
+        match self.rng.below(64) {
             0..=6 => self.write_once(),
             7..=15 => self.aperture(),
             16..=23 => self.function_reset(),
@@ -204,6 +210,7 @@ impl Session {
             40..=44 => self.some_reads(),
             45..=47 => self.unaligned(),
             48 => self.read_everything(),
+            49..=52 => self.host_sweep(),
             _ => self.some_writes(),
         }
     }
@@ -270,6 +277,10 @@ impl Session {
 
     /// Makes registers differ from their defaults and then writes AFCTL.
     fn function_reset(&mut self) {
+        if self.rng.one_in(3) {
+            self.push_write(0x60, 0x4, 0);
+            self.push_write(0x18, 0xF, u32::MAX);
+        }
         for _ in 0..self.rng.below(6) {
             let offset = self.any_guest_dword();
             let value = self.rng.telling_dword();
@@ -319,15 +330,21 @@ impl Session {
     /// Host updates inside and outside the masks, mask 0 and any offset too.
     fn host_updates(&mut self) {
         for _ in 0..1 + self.rng.below(4) {
-            let offset = if self.rng.one_in(3) {
-                self.rng.byte()
-            } else {
-                self.rng.pick(HOST_BYTES)
-            };
+            let offset = self.update_offset();
             let mask = self.update_mask(offset);
             let value = self.rng.byte();
             self.push(host(offset, mask, value));
             self.push_read(u32::from(offset) & !3, 0xF);
+        }
+    }
+
+    /// A byte with host bits in most cases, or next to one, or any.
+    fn update_offset(&mut self) -> u8 {
+        let host = self.rng.pick(HOST_BYTES);
+        match self.rng.below(6) {
+            0 => self.rng.byte(),
+            1 => self.rng.pick(&[host.wrapping_sub(1), host.wrapping_add(1)]),
+            _ => host,
         }
     }
 
@@ -343,6 +360,16 @@ impl Session {
             6 => host_bits(offset) & some | one,
             _ => host_bits(offset) & some,
         }
+    }
+
+    /// Each bit of one byte alone, byte after byte.
+    fn host_sweep(&mut self) {
+        for place in 0..8 {
+            let value = self.rng.byte();
+            self.push(host(self.swept, 1 << place, value));
+        }
+        self.push_read(u32::from(self.swept) & !3, 0xF);
+        self.swept = self.swept.wrapping_add(1);
     }
 
     fn some_reads(&mut self) {
@@ -488,7 +515,7 @@ impl Session {
             8 => base.wrapping_sub(rng.below(size)),
             9 => base ^ 1 << rng.below(64) ^ rng.below(size),
             10 => rng.pick(&[0, u64::MAX, u64::MAX - 0x3F_FFFF, 0xFFFF_FFFF, 1 << 32]),
-            _ => rng.next(),
+            _ => rng.qword(),
         }
     }
 
