@@ -1,1 +1,23 @@
-// The refusals of the twin; their numbers are in specs/Refusals.antt.
+// The paper's refusal numbers, for code that says them; specs/Refusals.antt has them for the definitions.
+
+pub const LENGTH: u32 = 1;
+
+pub const WIDTH: u32 = 2;
+
+pub const NOT_OURS: u32 = 3;
+
+pub const OTHER_FUNCTION: u32 = 4;
+
+pub const OFFSET: u32 = 5;
+
+pub const LANES: u32 = 6;
+
+pub const NOT_HOST: u32 = 7;
+
+pub const NO_RANGE: u32 = 8;
+
+pub const LINE: u32 = 9;
+
+pub const POINTER: u32 = 10;
+
+pub const ENDLESS: u32 = 11;

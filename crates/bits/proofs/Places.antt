@@ -1,11 +1,14 @@
 -- Laws of lists by place.
 use mathlib.Core.Path.{_≡_, refl, ap, sym, _∙_}
 use mathlib.Core.List.{List, [], _∷_}
-use Prim.Native.Nat.{ℕ, zero, suc, _+_, _<_}
+use mathlib.Core.Bool.{Bool, true, false}
+use Prim.Native.Nat.{ℕ, zero, suc, _+_, _<_, _≤_}
 use native.Mathlib.Omega.{arith}
 use native.Mathlib.Nat.{add-zero, add-suc, suc-add, zero-add}
-use lib.ListN.{length, getD, set, length-set}
+use lib.Dec.{ltb}
+use lib.ListN.{length, take, getD, set, length-set}
 use lib.Seq.{ext-getD}
+use borrow.Author.Tests.{ltb-true, ltb-false}
 use Rattle.bits.specs.Places.{from, bytes, mapN, put4Of}
 
 -- ---- 256 bytes by place
@@ -18,6 +21,12 @@ getD-from (suc k) f i (suc n) h = getD-from k f (suc i) n (omega arith) ∙ ap f
 length-from : (k : ℕ) (f : ℕ → ℕ) (i : ℕ) → length (from k f i) ≡ k
 length-from zero f i = refl
 length-from (suc k) f i = ap suc (length-from k f (suc i))
+
+-- what holds of 0 and of each element holds at every place
+pub at-each : (P : ℕ → Type 0) (k : ℕ) (f : ℕ → ℕ) (i n : ℕ) → P 0 → ((j : ℕ) → P (f j)) → P (getD (from k f i) n 0)
+at-each P zero f i n z h = z
+at-each P (suc k) f i zero z h = h i
+at-each P (suc k) f i (suc n) z h = at-each P k f (suc i) n z h
 
 pub getD-bytes : (f : ℕ → ℕ) (i : ℕ) → i < 256 → getD (bytes f) i 0 ≡ f i
 getD-bytes f i h = getD-from 256 f 0 i h ∙ ap f (zero-add i)
@@ -73,3 +82,26 @@ put4-at P l o a b c d j n h ha hb hc hd =
     (λ n3. set-at P (set (set l o a) (o + 1) b) (o + 2) j c (simp length-set n)
     (λ n2. set-at P (set l o a) (o + 1) j b (simp length-set n)
     (λ n1. set-at P l o j a n (λ n0. h n0 n1 n2 n3) ha) hb) hc) hd
+
+-- ---- the first n elements say all, where every list of n or more is judged alike
+
+take-all : (n : ℕ) (l : List ℕ) → length l ≤ n → take n l ≡ l
+take-all zero [] h = refl
+take-all zero (x ∷ l) h = absurd (omega arith)
+take-all (suc n) [] h = refl
+take-all (suc n) (x ∷ l) h = ap {B = List ℕ} (λ (t : List ℕ). x ∷ t) (take-all n l (omega arith))
+
+take-long : (n : ℕ) (l : List ℕ) → n ≤ length l → length (take n l) ≡ n
+take-long zero l h = refl
+take-long (suc n) [] h = absurd (omega arith)
+take-long (suc n) (x ∷ l) h = ap suc (take-long n l (omega arith))
+
+module _ {A : Type 0} (f : List ℕ → A) (n : ℕ) (other : A) (long : (l : List ℕ) → n ≤ length l → f l ≡ other) where
+  cut : (l : List ℕ) (b : Bool) → ltb (length l) n ≡ b → f (take n l) ≡ f l
+  cut l true e = ap f (take-all n l (omega (arith, ltb-true (length l) n e)))
+  cut l false e =
+      let h : n ≤ length l = ltb-false (length l) n e in
+      long (take n l) (omega (arith, take-long n l h)) ∙ sym (long l h)
+
+  pub first-say-all : (l k : List ℕ) → take n l ≡ take n k → f l ≡ f k
+  first-say-all l k e = sym (cut l _ refl) ∙ ap f e ∙ cut k _ refl

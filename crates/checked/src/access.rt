@@ -11,8 +11,8 @@ use rules::WriteAnswer;
 fn write_answer(a: WriteAnswer) {
     match a {
         WriteAnswer::Done => {}
-        WriteAnswer::Offset => print::refused(print::OFFSET),
-        WriteAnswer::Lanes => print::refused(print::LANES),
+        WriteAnswer::Offset => print::refused(answer::OFFSET),
+        WriteAnswer::Lanes => print::refused(answer::LANES),
     }
 }
 
@@ -37,8 +37,8 @@ fn read_answer(a: ReadAnswer) {
             print::text(b": ");
             print::hex8(v);
         }
-        ReadAnswer::Offset => print::refused(print::OFFSET),
-        ReadAnswer::Lanes => print::refused(print::LANES),
+        ReadAnswer::Offset => print::refused(answer::OFFSET),
+        ReadAnswer::Lanes => print::refused(answer::LANES),
     }
 }
 
@@ -56,9 +56,9 @@ pub fn guest_read(s: State, offset: u32, lanes: u32) {
 fn port_write_answer(a: PortWriteAnswer) {
     match a {
         PortWriteAnswer::Done => {}
-        PortWriteAnswer::Width => print::refused(print::WIDTH),
-        PortWriteAnswer::NotOurs => print::refused(print::NOT_OURS),
-        PortWriteAnswer::OtherFunction => print::refused(print::OTHER_FUNCTION),
+        PortWriteAnswer::Width => print::refused(answer::WIDTH),
+        PortWriteAnswer::NotOurs => print::refused(answer::NOT_OURS),
+        PortWriteAnswer::OtherFunction => print::refused(answer::OTHER_FUNCTION),
     }
 }
 
@@ -79,9 +79,9 @@ fn port_read_answer(a: PortReadAnswer) {
             print::text(b": ");
             print::hex4(v);
         }
-        PortReadAnswer::Width => print::refused(print::WIDTH),
-        PortReadAnswer::NotOurs => print::refused(print::NOT_OURS),
-        PortReadAnswer::OtherFunction => print::refused(print::OTHER_FUNCTION),
+        PortReadAnswer::Width => print::refused(answer::WIDTH),
+        PortReadAnswer::NotOurs => print::refused(answer::NOT_OURS),
+        PortReadAnswer::OtherFunction => print::refused(answer::OTHER_FUNCTION),
     }
 }
 

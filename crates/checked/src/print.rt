@@ -1,26 +1,6 @@
 // Text, upper-case hex as in the paper, and refusals, on standard output.
 use libc::STDOUT_FILENO;
 
-// ---- the paper's refusal numbers, of the answers that are written here
-
-pub const LENGTH: u32 = 1;
-
-pub const WIDTH: u32 = 2;
-
-pub const NOT_OURS: u32 = 3;
-
-pub const OTHER_FUNCTION: u32 = 4;
-
-pub const OFFSET: u32 = 5;
-
-pub const LANES: u32 = 6;
-
-pub const NO_RANGE: u32 = 8;
-
-pub const POINTER: u32 = 10;
-
-pub const ENDLESS: u32 = 11;
-
 // ---- writing
 
 pub fn text(s: &[u8]) {

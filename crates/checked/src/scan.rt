@@ -15,7 +15,7 @@ fn probe_answer(p: Probed) {
         Probed::Io(e) => range(b": I/O", e),
         Probed::Memory32(e) => range(b": 32-bit", e),
         Probed::Memory64(e) => range(b": 64-bit", e),
-        Probed::NoRange => print::refused(print::NO_RANGE),
+        Probed::NoRange => print::refused(answer::NO_RANGE),
     }
 }
 
@@ -31,10 +31,10 @@ pub fn size_probe(low: u32, high: u32) {
 
 fn walk_answer(f: Found) {
     match f {
-        Found::Length => print::refused(print::LENGTH),
+        Found::Length => print::refused(answer::LENGTH),
         Found::Absent => print::text(b": absent"),
-        Found::Pointer => print::refused(print::POINTER),
-        Found::Endless => print::refused(print::ENDLESS),
+        Found::Pointer => print::refused(answer::POINTER),
+        Found::Endless => print::refused(answer::ENDLESS),
         Found::At(o) => {
             print::text(b": found ");
             print::hex2(o as u32);

@@ -4,6 +4,7 @@ pub mod NoLanes
 pub mod One
 pub mod Kept
 pub mod Runs
+pub mod Good
 pub mod Once
 pub mod Fixed
 pub mod Size

@@ -119,7 +119,7 @@ module _ (P : State → Type 0) (fresh : P freshOf) (step : (s : State) (o l v :
   performed-keeps none s h = h
   performed-keeps (at o l v) s h = step s o l v h
 
-  event-keeps : (e : Event) (s : State) → P s → P (happens e s .state)
+  pub event-keeps : (e : Event) (s : State) → P s → P (happens e s .state)
   unfolding happens
   event-keeps (read o l) s h = h
   event-keeps (write o l v) s h = rw (write-effect s o l v) (performed-keeps (guestWrite (s .latch) (write o l v)) s h)

@@ -1,0 +1,3 @@
+pub mod Long
+pub mod Digits
+pub mod Forms

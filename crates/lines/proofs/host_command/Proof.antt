@@ -1,0 +1,31 @@
+-- The numbers of a host update line.
+use Rattle.bits.proofs.Tests.{tests}
+use Rattle.lines.specs.Line.{hostCommandOf}
+use borrow.Author.Needs.{needs}
+use Rattle.lines.proofs.host_command.Statement.{statement}
+use Rattle.lines.proofs.host_command.Tie as tie
+
+returns : tie.Need-returns
+unfolding hostCommandOf
+returns c = search tests
+
+returns-2 : tie.Need-returns-2
+unfolding hostCommandOf
+returns-2 c = search tests
+
+returns-3 : tie.Need-returns-3
+unfolding hostCommandOf
+returns-3 c = search tests
+
+cast-t5 : tie.Need-cast-t5
+cast-t5 c = search needs
+
+cast-t6 : tie.Need-cast-t6
+cast-t6 c = search needs
+
+returns-4 : tie.Need-returns-4
+unfolding hostCommandOf
+returns-4 c = search tests
+
+pub host-command-spec : {M : Type 1} → statement M
+host-command-spec = tie.close (tie.spec returns returns-2 returns-3 cast-t5 cast-t6 returns-4)

@@ -1,0 +1,4 @@
+pub mod Ascii
+pub mod Hex
+pub mod Line
+pub mod Form

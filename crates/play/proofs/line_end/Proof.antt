@@ -1,0 +1,51 @@
+-- Where a line ends: the loop goes on to the first LF.
+use borrow.Author.Needs.{needs}
+use mathlib.Core.Path.{_≡_, refl}
+use native.Mathlib.Omega.{arith}
+use Prim.Native.Nat.{_≤_, _+_, _-_}
+use lib.ListN.{length, drop}
+use Rattle.play.specs.Session.{runOf}
+use Rattle.play.proofs.Text.{run-here, run-on, run-end}
+use Rattle.play.proofs.line_end.Statement.{statement}
+use Rattle.play.proofs.line_end.Tie as tie
+
+abbrev Inv-loop : tie.InvT-loop
+Inv-loop s a i₀ i = (a ≤ i) × (i ≤ length s) × (i + runOf (drop i s) ≡ a + runOf (drop a s))
+
+abbrev μ-loop : tie.MeasureT-loop
+μ-loop s a i₀ i = length s - i
+
+loop-holds : tie.Need-loop-holds Inv-loop μ-loop
+loop-holds c = (omega arith, omega arith, refl)
+
+shared-slice-read-if1 : tie.Need-shared-slice-read-if1 Inv-loop μ-loop
+shared-slice-read-if1 c = search needs
+
+returns : tie.Need-returns Inv-loop μ-loop
+returns c = (omega (arith, c .before .before .before .loop .inv .2, run-here (c .before .before .before .before .args .s .now) (c .before .before .before .loop .i) (c .before .before .loop-test .taken) (c .if1 .taken)), omega arith)
+
+add-i : tie.Need-add-i Inv-loop μ-loop
+add-i c = search needs
+
+loop-less : tie.Need-loop-less Inv-loop μ-loop
+loop-less c = search needs
+
+loop-again : tie.Need-loop-again Inv-loop μ-loop
+loop-again c = (omega arith, omega arith, omega (arith, c .before .before .before .loop .inv .2, run-on (c .before .before .before .before .args .s .now) (c .before .before .before .loop .i) (c .before .before .loop-test .taken) (c .if1 .left)))
+
+returns-2 : tie.Need-returns-2 Inv-loop μ-loop
+returns-2 c = (omega (arith, c .before .loop .inv .2, run-end (c .before .before .args .s .now) (c .before .loop .i) (omega arith)), omega arith)
+
+pub line-end-spec : {M : Type 1} → statement M
+line-end-spec =
+    tie.close
+    (tie.spec
+    Inv-loop
+    μ-loop
+    loop-holds
+    shared-slice-read-if1
+    returns
+    add-i
+    loop-less
+    loop-again
+    returns-2)

@@ -1,0 +1,99 @@
+// The text of an answer, put at a place of a buffer.
+ghost use mathlib.Core.Path.{_≡_};
+ghost use mathlib.Core.List.{_++_};
+ghost use Prim.Native.Nat.{_+_, _<_, _≤_};
+ghost use lib.ListN.{length, take};
+ghost use Rattle.lines.specs.Hex.{upOf};
+ghost use Rattle.texts.specs.Text.{okText, noText, valueText, textOf};
+
+// What an entry says: accepted, a value, or the number of a refusal.
+pub enum Said {
+    Done,
+    Value(u32),
+    No(u32),
+}
+
+// A digit in upper-case hex.
+fn up(n: u32) -> u8
+    requires { ⌜ n < 16 ⌝ }
+    ensures { λ r. ⌜ r ≡ upOf n ⌝ }
+{
+    if n < 10 {
+        return (48 + n) as u8;
+    }
+    (55 + n) as u8
+}
+
+fn put_ok(out: &mut [u8], o: usize)
+    requires { ⌜ o + 3 ≤ length (now out) ⌝ }
+    ensures { λ _. ⌜ take (o + 3) (now (out .exit)) ≡ take o (now (out .entry)) ++ okText ⌝ }
+    ensures { λ _. ⌜ length (now (out .exit)) ≡ length (now (out .entry)) ⌝ }
+{
+    out[o] = b'O';
+    out[o + 1] = b'K';
+    out[o + 2] = b'\n';
+}
+
+// A refusal's number has one digit in a player's answers, and its last is put.
+fn put_no(out: &mut [u8], o: usize, n: u32)
+    requires { ⌜ o + 5 ≤ length (now out) ⌝ }
+    ensures { λ _. ⌜ take (o + 5) (now (out .exit)) ≡ take o (now (out .entry)) ++ noText n ⌝ }
+    ensures { λ _. ⌜ length (now (out .exit)) ≡ length (now (out .entry)) ⌝ }
+{
+    let d = up(n % 10);
+    out[o] = b'N';
+    out[o + 1] = b'O';
+    out[o + 2] = b' ';
+    out[o + 3] = d;
+    out[o + 4] = b'\n';
+}
+
+fn put_value(out: &mut [u8], o: usize, v: u32)
+    requires { ⌜ o + 12 ≤ length (now out) ⌝ }
+    ensures { λ _. ⌜ take (o + 12) (now (out .exit)) ≡ take o (now (out .entry)) ++ valueText v ⌝ }
+    ensures { λ _. ⌜ length (now (out .exit)) ≡ length (now (out .entry)) ⌝ }
+{
+    let a = up(v / 268435456 % 16);
+    let b = up(v / 16777216 % 16);
+    let c = up(v / 1048576 % 16);
+    let d = up(v / 65536 % 16);
+    let e = up(v / 4096 % 16);
+    let f = up(v / 256 % 16);
+    let g = up(v / 16 % 16);
+    let h = up(v % 16);
+    out[o] = b'O';
+    out[o + 1] = b'K';
+    out[o + 2] = b' ';
+    out[o + 3] = a;
+    out[o + 4] = b;
+    out[o + 5] = c;
+    out[o + 6] = d;
+    out[o + 7] = e;
+    out[o + 8] = f;
+    out[o + 9] = g;
+    out[o + 10] = h;
+    out[o + 11] = b'\n';
+}
+
+// The answer's line from place `o` on; the result is the place behind it. At most 12 bytes are put.
+pub fn put(out: &mut [u8], o: usize, a: Said) -> usize
+    requires { ⌜ o + 12 ≤ length (now out) ⌝ }
+    ensures { λ r. ⌜ take r (now (out .exit)) ≡ take o (now (out .entry)) ++ textOf a ⌝ }
+    ensures { λ _. ⌜ length (now (out .exit)) ≡ length (now (out .entry)) ⌝ }
+    ensures { λ r. ⌜ r ≤ o + 12 ⌝ }
+{
+    match a {
+        Said::Done => {
+            put_ok(out, o);
+            o + 3
+        }
+        Said::No(n) => {
+            put_no(out, o, n);
+            o + 5
+        }
+        Said::Value(v) => {
+            put_value(out, o, v);
+            o + 12
+        }
+    }
+}
