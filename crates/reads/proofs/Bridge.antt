@@ -1,15 +1,17 @@
 -- The guest read a byte at a time comes to the rule, bit by bit: for every state whose bytes are bytes.
 use mathlib.Core.Path.{_≡_, refl, sym, ap, _∙_}
+use mathlib.Core.List.{List}
 use mathlib.Core.Bool.{Bool, true, false}
 use Prim.Native.Nat.{ℕ, _+_, _/_, _%_, _^_, _<_}
 use native.Mathlib.Omega.{arith}
 use native.Mathlib.Nat.{add-zero, div-one}
 use lib.Dec.{T, eqb, eqb→eq}
-use borrow.Author.Tests.{ltb-false}
-use lib.ListN.{getD}
-use Rattle.bits.specs.Bits.{bit, numberOf, pickBit, blendK}
+use borrow.Author.Tests.{ltb-false, ne-eqb}
+use lib.ListN.{length, getD, set, length-set}
+use Rattle.bits.specs.Bits.{bit, numberOf, byteOf, pickBit, blendK}
 use Rattle.bits.specs.Choice.{pick, allBelow}
-use Rattle.bits.proofs.Laws.{number-ext, bit-number, bit-zero, bit<2, pick-bit, blend-number, little-bits, joined-little}
+use Rattle.bits.proofs.Laws.{number-ext, number-bits, bit-number, bit-zero, bit<2, pick-bit, blend-number, little-bits, joined-little}
+use Rattle.bits.proofs.Places.{as-bytes, set-at}
 use Rattle.bits.proofs.Below.{below, same, same-eq, pick-has}
 use Rattle.answer.specs.Refusals.{ok, no, OFFSET, LANES}
 use Rattle.map.specs.Registers.{CAPPOINT, CAPL}
@@ -17,9 +19,9 @@ use Rattle.map.specs.Class.{computed, sameClass}
 use Rattle.map.specs.Map.{rows, rowAt, classOf}
 use Rattle.rules.specs.declared.State.{State}
 use Rattle.rules.specs.Access.{byte, badOffset, badLanes}
-use Rattle.rules.specs.Read.{pointer, readBit, undriven, readValue, readOf}
+use Rattle.rules.specs.Read.{pointer, readBit, undriven, readValue, readOf, imageOf}
 use Rattle.rules.proofs.Access.{good-offset}
-use Rattle.reads.specs.Shown.{shownByte, shownDword, spreadOf, readLanes}
+use Rattle.reads.specs.Shown.{shownByte, shownDword, spreadOf, readLanes, imageBytes}
 
 -- ---- CAPPOINT is the computed byte
 
@@ -52,6 +54,11 @@ spread-bit l n h k = eqb→eq _ _ (below 32 (λ (n : ℕ). eqb (bit (spreadOf l)
 chosen-bit : (e : Bool) (p x j : ℕ) → bit (pick e p x) j ≡ pick e (bit p j) (bit x j)
 chosen-bit true p x j = refl
 chosen-bit false p x j = refl
+
+-- every other byte reads as it is
+other-shown : (m : List ℕ) (i : ℕ) → (i ≡ CAPPOINT → ⊥) → shownByte m i ≡ getD m i 0
+unfolding shownByte
+other-shown m i ne = rw (ne-eqb i CAPPOINT ne)
 
 module _ (s : State) (b : (i : ℕ) → byte s i < 2 ^ 8) where
   shown-pointer : pick (eqb (getD (s .bytes) CAPL 0 % 2) 1) 0xD0 0x90 ≡ pointer s
@@ -88,3 +95,18 @@ module _ (s : State) (b : (i : ℕ) → byte s i < 2 ^ 8) where
       go true y e d = refl
       go false true e d = refl
       go false false e d = rw (value-is o l (good-offset o e .0) (omega (arith, ltb-false 15 l d)))
+
+  -- a byte as a guest reads it
+  shown-byte : (i : ℕ) → i < 256 → shownByte (s .bytes) i ≡ byteOf (readBit s i)
+  shown-byte i h = sym (number-bits 8 (shownByte (s .bytes) i) (shown< i)) ∙ number-ext 8 (bit (shownByte (s .bytes) i)) (readBit s i) (λ j k. shown-bit i j h k)
+
+  pub image-is : length (s .bytes) ≡ 256 → imageBytes (s .bytes) ≡ imageOf s
+  unfolding imageBytes imageOf
+  image-is n =
+      as-bytes (set (s .bytes) CAPPOINT (shownByte (s .bytes) CAPPOINT)) (λ (i : ℕ). byteOf (readBit s i)) (length-set (s .bytes) CAPPOINT (shownByte (s .bytes) CAPPOINT) ∙ n)
+      (λ i h. set-at (λ (x : ℕ). x ≡ byteOf (readBit s i)) (s .bytes) CAPPOINT i (shownByte (s .bytes) CAPPOINT) (rw n h)
+      (λ ne. plain i ne ∙ shown-byte i h)
+      (λ e. ap (shownByte (s .bytes)) (sym e) ∙ shown-byte i h))
+    where
+      plain : (i : ℕ) → (i ≡ CAPPOINT → ⊥) → byte s i ≡ shownByte (s .bytes) i
+      plain i ne = sym (other-shown (s .bytes) i ne)

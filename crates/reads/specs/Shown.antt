@@ -1,7 +1,7 @@
 -- A guest read a byte at a time, as the code makes it; proofs/Bridge.antt shows that it comes to the rule.
 use mathlib.Core.List.{List}
 use Prim.Native.Nat.{ℕ, _+_, _*_, _/_, _%_}
-use lib.ListN.{getD}
+use lib.ListN.{getD, set}
 use Rattle.bits.specs.Bits.{joined, blendK}
 use Rattle.bits.specs.Choice.{if_then_else_, _is_}
 use Rattle.answer.specs.Refusals.{Reply, ok, no, OFFSET, LANES}
@@ -23,3 +23,7 @@ readLanes m o l =
     if badOffset o then no OFFSET
     else if badLanes l then no LANES
     else ok (blendK 32 (spreadOf l) 0 (shownDword m o))
+
+-- the bytes as a guest reads them: only the computed one differs
+unfoldable pub imageBytes : List ℕ → List ℕ
+imageBytes m = set m CAPPOINT (shownByte m CAPPOINT)

@@ -2,7 +2,7 @@
 ghost use mathlib.Core.Path.{_≡_};
 ghost use Prim.Native.Nat.{_+_, _*_, _%_, _<_};
 ghost use Rattle.rules.specs.Answers.{readSays};
-ghost use Rattle.reads.specs.Shown.{shownByte, shownDword, spreadOf, readLanes};
+ghost use Rattle.reads.specs.Shown.{shownByte, shownDword, spreadOf, readLanes, imageBytes};
 use rules::ReadAnswer;
 
 // A byte as a guest reads it: CAPPOINT is computed from CAPL.
@@ -62,4 +62,13 @@ pub fn read(m: &[u8; 256], offset: u32, lanes: u32) -> ReadAnswer
     }
     let o = offset as usize;
     ReadAnswer::Value(bits::blend32(spread(lanes), 0, dword_at(m, o)))
+}
+
+// The 256 bytes as a guest reads them.
+pub fn image(m: &[u8; 256]) -> [u8; 256]
+    ensures { λ r. ⌜ r ≡ imageBytes (now (m .entry)) ⌝ }
+{
+    let mut t = *m;
+    t[map::CAPPOINT] = shown(m, map::CAPPOINT);
+    t
 }

@@ -1,7 +1,9 @@
 -- A guest read, bit by bit ('How a bit behaves').
+use mathlib.Core.List.{List}
 use Prim.Native.Nat.{ℕ, _+_, _/_, _%_}
-use Rattle.bits.specs.Bits.{bit, numberOf}
+use Rattle.bits.specs.Bits.{bit, numberOf, byteOf}
 use Rattle.bits.specs.Choice.{if_then_else_, _is_}
+use Rattle.bits.specs.Places.{bytes}
 use Rattle.answer.specs.Refusals.{Reply, ok, no, OFFSET, LANES}
 use Rattle.map.specs.Registers.{CAPL}
 use Rattle.map.specs.Class.{computed, sameClass}
@@ -30,3 +32,7 @@ readOf s o l =
     if badOffset o then no OFFSET
     else if badLanes l then no LANES
     else ok (readValue s o l)
+
+-- the 256 bytes as a guest reads them
+unfoldable pub imageOf : State → List ℕ
+imageOf s = bytes (λ (i : ℕ). byteOf (readBit s i))

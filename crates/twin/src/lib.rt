@@ -1,7 +1,7 @@
 // The twin's entries over a state by value: guest read and write, host update, platform reset.
 ghost use mathlib.Core.Path.{_≡_};
 ghost use Rattle.rules.specs.Guest.{writeOf};
-ghost use Rattle.rules.specs.Read.{readOf};
+ghost use Rattle.rules.specs.Read.{readOf, imageOf};
 ghost use Rattle.rules.specs.Host.{hostOf};
 ghost use Rattle.rules.specs.Fresh.{freshOf};
 ghost use Rattle.rules.specs.Answers.{readSays, wrote, updated};
@@ -17,6 +17,14 @@ pub fn read(s: State, offset: u32, lanes: u32) -> ReadAnswer
 {
     let t = s;
     reads::read(&t.bytes, offset, lanes)
+}
+
+// The 256 bytes as a guest reads them: what a capability walk goes over.
+pub fn image(s: State) -> [u8; 256]
+    ensures { λ r. ⌜ r ≡ imageOf s ⌝ }
+{
+    let t = s;
+    reads::image(&t.bytes)
 }
 
 // A guest write of the enabled bytes of `value` to the dword at `offset`; the function reset that it may start is performed within it.

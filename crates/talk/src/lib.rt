@@ -1,0 +1,329 @@
+// The console, over a state by value: what a call says and does.
+ghost use mathlib.Core.Path.{_≡_};
+ghost use mathlib.Core.List.{[], _++_};
+ghost use Prim.Native.Nat.{min, _+_, _-_, _*_, _≤_};
+ghost use lib.ListN.{length, take, drop};
+ghost use Rattle.rules.specs.Answers.{portReadSays, portWriteSays, claimSays};
+ghost use Rattle.probe.specs.Probe.{probeSays};
+ghost use Rattle.walk.specs.Walk.{saysOf};
+ghost use Rattle.texts.specs.Text.{textOf};
+ghost use Rattle.play.specs.Player.{replyText, valueTextOf, nextOf, sayOf};
+ghost use Rattle.talk.specs.Answers.{claimText, probeText, walkText, answerText};
+ghost use Rattle.play.specs.Session.{played, playText};
+ghost use Rattle.talk.specs.Console.{callNext, callSay, lineNext, lineSay};
+use calls::Call;
+use lines::Command;
+use probe::Probed;
+use rules::Claim;
+use rules::PortReadAnswer;
+use rules::PortWriteAnswer;
+use rules::State;
+use texts::Said;
+use walk::Found;
+
+// An answer of the player's, a claim, a range, or how a walk ended and its count.
+pub enum Answer {
+    Said(Said),
+    Window(Claim),
+    Range(Probed),
+    Item(Found, u32),
+}
+
+pub struct Answered {
+    pub answer: Answer,
+    pub state: State,
+}
+
+// ---- the player's lines
+
+struct Lined {
+    said: Said,
+    state: State,
+}
+
+fn line(s: State, k: Command) -> Lined
+    ensures { λ r. ⌜ (textOf (r .said) ≡ sayOf s k) × (r .state ≡ nextOf s k) ⌝ }
+{
+    match k {
+        Command::Write(o, l, v) => {
+            let w = twin::write(s, o, l, v);
+            let a = w.answer;
+            let t = w.state;
+            Lined {
+                said: play::write_said(a),
+                state: t,
+            }
+        }
+        Command::Read(o, l) => Lined {
+            said: play::read_said(twin::read(s, o, l)),
+            state: s,
+        },
+        Command::Host(o, m, v) => {
+            let w = twin::host_update(s, o, m, v);
+            let a = w.answer;
+            let t = w.state;
+            Lined {
+                said: play::host_said(a),
+                state: t,
+            }
+        }
+        Command::Reset => Lined {
+            said: Said::Done,
+            state: twin::platform_reset(s),
+        },
+        Command::Bad => Lined {
+            said: Said::No(answer::LINE),
+            state: s,
+        },
+    }
+}
+
+// ---- the ports
+
+fn port_read_said(a: PortReadAnswer) -> Said
+    ensures { λ r. ⌜ textOf r ≡ valueTextOf (portReadSays a) ⌝ }
+{
+    match a {
+        PortReadAnswer::Value(v) => Said::Value(v),
+        PortReadAnswer::Width => Said::No(answer::WIDTH),
+        PortReadAnswer::NotOurs => Said::No(answer::NOT_OURS),
+        PortReadAnswer::OtherFunction => Said::No(answer::OTHER_FUNCTION),
+    }
+}
+
+fn port_write_said(a: PortWriteAnswer) -> Said
+    ensures { λ r. ⌜ textOf r ≡ replyText (portWriteSays a) ⌝ }
+{
+    match a {
+        PortWriteAnswer::Done => Said::Done,
+        PortWriteAnswer::Width => Said::No(answer::WIDTH),
+        PortWriteAnswer::NotOurs => Said::No(answer::NOT_OURS),
+        PortWriteAnswer::OtherFunction => Said::No(answer::OTHER_FUNCTION),
+    }
+}
+
+// ---- a call
+
+// The walk over the bytes as a guest reads them.
+fn item(s: State, want: u8) -> Answer
+    ensures { λ r. ⌜ answerText r ≡ callSay s (Call.Walk want) ⌝ }
+{
+    let m = twin::image(s);
+    let w = walk::walk(&m, want);
+    let f = w.found;
+    Answer::Item(f, w.count)
+}
+
+// What a call says and does.
+pub fn perform(s: State, k: Call) -> Answered
+    ensures { λ r. ⌜ (answerText (r .answer) ≡ callSay s k) × (r .state ≡ callNext s k) ⌝ }
+{
+    match k {
+        Call::Line(c) => {
+            let r = line(s, c);
+            let a = r.said;
+            let t = r.state;
+            Answered {
+                answer: Answer::Said(a),
+                state: t,
+            }
+        }
+        Call::PortWrite(p, w, v) => {
+            let r = ports::port_write(s, p, w, v);
+            let a = r.answer;
+            let t = r.state;
+            Answered {
+                answer: Answer::Said(port_write_said(a)),
+                state: t,
+            }
+        }
+        Call::PortRead(p, w) => Answered {
+            answer: Answer::Said(port_read_said(ports::port_read(s, p, w))),
+            state: s,
+        },
+        Call::Memory(a) => Answered {
+            answer: Answer::Window(claims::claim_memory(s, a)),
+            state: s,
+        },
+        Call::Port(p) => Answered {
+            answer: Answer::Window(claims::claim_port(s, p)),
+            state: s,
+        },
+        Call::Probe(a, b) => Answered {
+            answer: Answer::Range(probe::probe(a, b)),
+            state: s,
+        },
+        Call::Walk(i) => Answered {
+            answer: item(s, i),
+            state: s,
+        },
+    }
+}
+
+// ---- the text of an answer, at most 24 bytes
+
+fn put_window(out: &mut [u8], o: usize, c: Claim) -> usize
+    requires { ⌜ o + 24 ≤ length (now out) ⌝ }
+    ensures { λ r. ⌜ take r (now (out .exit)) ≡ take o (now (out .entry)) ++ claimText (claimSays c) ⌝ }
+    ensures { λ r. ⌜ (r ≤ o + 24) × (length (now (out .exit)) ≡ length (now (out .entry))) ⌝ }
+{
+    match c {
+        Claim::Translation(x) => {
+            let a = words::put(out, o, b"OK TRANSLATION ");
+            let b = words::put8(out, a, x);
+            words::put(out, b, b"\n")
+        }
+        Claim::Aperture(x) => {
+            let a = words::put(out, o, b"OK APERTURE ");
+            let b = words::put8(out, a, x);
+            words::put(out, b, b"\n")
+        }
+        Claim::Io(x) => {
+            let a = words::put(out, o, b"OK IO ");
+            let b = words::put8(out, a, x);
+            words::put(out, b, b"\n")
+        }
+        Claim::None => words::put(out, o, b"OK NONE\n"),
+    }
+}
+
+fn put_range(out: &mut [u8], o: usize, p: Probed) -> usize
+    requires { ⌜ o + 24 ≤ length (now out) ⌝ }
+    ensures { λ r. ⌜ take r (now (out .exit)) ≡ take o (now (out .entry)) ++ probeText (probeSays p) ⌝ }
+    ensures { λ r. ⌜ (r ≤ o + 24) × (length (now (out .exit)) ≡ length (now (out .entry))) ⌝ }
+{
+    match p {
+        Probed::Io(e) => {
+            let a = words::put(out, o, b"OK IO ");
+            let b = words::put2(out, a, e);
+            words::put(out, b, b"\n")
+        }
+        Probed::Memory32(e) => {
+            let a = words::put(out, o, b"OK MEM32 ");
+            let b = words::put2(out, a, e);
+            words::put(out, b, b"\n")
+        }
+        Probed::Memory64(e) => {
+            let a = words::put(out, o, b"OK MEM64 ");
+            let b = words::put2(out, a, e);
+            words::put(out, b, b"\n")
+        }
+        Probed::NoRange => words::put(out, o, b"NO 8\n"),
+    }
+}
+
+fn put_item(out: &mut [u8], o: usize, f: Found, n: u32) -> usize
+    requires { ⌜ o + 24 ≤ length (now out) ⌝ }
+    ensures { λ r. ⌜ take r (now (out .exit)) ≡ take o (now (out .entry)) ++ walkText (saysOf f n) ⌝ }
+    ensures { λ r. ⌜ (r ≤ o + 24) × (length (now (out .exit)) ≡ length (now (out .entry))) ⌝ }
+{
+    match f {
+        Found::At(x) => {
+            let a = words::put(out, o, b"OK FOUND ");
+            let b = words::put2(out, a, x as u32);
+            let c = words::put(out, b, b" ");
+            let d = words::put2(out, c, n);
+            words::put(out, d, b"\n")
+        }
+        Found::Absent => {
+            let a = words::put(out, o, b"OK ABSENT ");
+            let b = words::put2(out, a, n);
+            words::put(out, b, b"\n")
+        }
+        Found::Pointer => {
+            let a = words::put(out, o, b"NO 10 ");
+            let b = words::put2(out, a, n);
+            words::put(out, b, b"\n")
+        }
+        Found::Endless => {
+            let a = words::put(out, o, b"NO 11 ");
+            let b = words::put2(out, a, n);
+            words::put(out, b, b"\n")
+        }
+        Found::Length => words::put(out, o, b"NO 1\n"),
+    }
+}
+
+// The answer's line from place `o` on; the result is the place behind it.
+pub fn put(out: &mut [u8], o: usize, a: Answer) -> usize
+    requires { ⌜ o + 24 ≤ length (now out) ⌝ }
+    ensures { λ r. ⌜ take r (now (out .exit)) ≡ take o (now (out .entry)) ++ answerText a ⌝ }
+    ensures { λ r. ⌜ (r ≤ o + 24) × (length (now (out .exit)) ≡ length (now (out .entry))) ⌝ }
+{
+    match a {
+        Answer::Said(s) => texts::put(out, o, s),
+        Answer::Window(c) => put_window(out, o, c),
+        Answer::Range(p) => put_range(out, o, p),
+        Answer::Item(f, n) => put_item(out, o, f, n),
+    }
+}
+
+// ---- lines
+
+pub struct Replied {
+    pub filled: usize,
+    pub state: State,
+}
+
+// One line, without its LF: its answer goes to `out` from place `o` on.
+pub fn reply(s: State, l: &[u8], out: &mut [u8], o: usize) -> Replied
+    requires { ⌜ o + 24 ≤ length (now out) ⌝ }
+    ensures { λ r. ⌜ r .state ≡ lineNext s (now (l .entry)) ⌝ }
+    ensures { λ r. ⌜ take (r .filled) (now (out .exit)) ≡ take o (now (out .entry)) ++ lineSay s (now (l .entry)) ⌝ }
+    ensures { λ r. ⌜ (r .filled ≤ o + 24) × (length (now (out .exit)) ≡ length (now (out .entry))) ⌝ }
+{
+    let k = calls::parse(l);
+    let p = perform(s, k);
+    let a = p.answer;
+    let filled = put(out, o, a);
+    let state = p.state;
+    Replied { filled, state }
+}
+
+pub struct Rest {
+    pub at: usize,
+    pub filled: usize,
+    pub state: State,
+}
+
+// The complete lines of a text: their answers go to the start of `out`, and the unfinished line starts at `at`.
+pub fn talk(s: State, t: &[u8], out: &mut [u8]) -> Rest
+    requires { ⌜ 24 * length (now t) ≤ length (now out) ⌝ }
+    ensures { λ r. ⌜ playText lineNext lineSay s [] (now (t .entry)) ≡ played (r .state) (take (r .filled) (now (out .exit))) (drop (r .at) (now (t .entry))) ⌝ }
+    ensures { λ r. ⌜ (r .at ≤ length (now (t .entry))) × (r .filled ≤ length (now (out .exit))) ⌝ }
+    ensures { λ _. ⌜ length (now (out .exit)) ≡ length (now (out .entry)) ⌝ }
+{
+    let mut a: usize = 0;
+    let mut o: usize = 0;
+    let mut g = s;
+    while a < t.len() {
+        let e = play::line_end(t, a);
+        if t.len() <= e {
+            return Rest {
+                at: a,
+                filled: o,
+                state: g,
+            };
+        }
+        let l = &t[a..e];
+        let r = reply(g, l, out, o);
+        o = r.filled;
+        g = r.state;
+        a = e + 1;
+    }
+    Rest {
+        at: a,
+        filled: o,
+        state: g,
+    }
+}
+
+// Bytes of an unfinished line that are kept: more than any line that is a call has.
+const MOST: usize = 20;
+
+pub fn keep(s: &mut [u8], from: usize, to: usize) -> usize
+    requires { ⌜ (from ≤ to) × (to ≤ length (now s)) ⌝ }
+    ensures { λ r. ⌜ (r ≤ 20) × (length (now (s .exit)) ≡ length (now (s .entry))) × (r ≡ min 20 (to - from)) × (take r (now (s .exit)) ≡ take r (drop from (now (s .entry)))) ⌝ }
+{
+    play::keep_first(s, from, to, MOST)
+}
