@@ -1,3 +1,4 @@
 pub mod Long
 pub mod Digits
 pub mod Forms
+mod Which

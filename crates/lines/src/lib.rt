@@ -15,19 +15,25 @@ pub enum Command {
 pub fn digit(b: u8) -> u8
     ensures { λ r. ⌜ r ≡ digitOf b ⌝ }
 {
-    if b < 48 {
-        return 16;
+    match b {
+        48 => 0,
+        49 => 1,
+        50 => 2,
+        51 => 3,
+        52 => 4,
+        53 => 5,
+        54 => 6,
+        55 => 7,
+        56 => 8,
+        57 => 9,
+        65 => 10,
+        66 => 11,
+        67 => 12,
+        68 => 13,
+        69 => 14,
+        70 => 15,
+        _ => 16,
     }
-    if b < 58 {
-        return b - 48;
-    }
-    if b < 65 {
-        return 16;
-    }
-    if b < 71 {
-        return b - 55;
-    }
-    16
 }
 
 // The byte that two digits are, or 256.
@@ -36,10 +42,7 @@ pub fn pair(a: u8, b: u8) -> u32
 {
     let h = digit(a);
     let l = digit(b);
-    if 15 < h {
-        return 256;
-    }
-    if 15 < l {
+    if 0 < h / 16 + l / 16 {
         return 256;
     }
     (h as u32) * 16 + (l as u32)
