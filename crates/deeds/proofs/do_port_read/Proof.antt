@@ -1,0 +1,40 @@
+-- A port read.
+use mathlib.Core.Path.{ap, _∙_}
+use borrow.Author.Tests.{lt-ltb, le-ltb}
+use Rattle.answer.specs.Refusals.{Reply}
+use Rattle.deeds.specs.Told.{leaves}
+use Rattle.deeds.specs.Door.{portReadDeed}
+use borrow.Author.Needs.{needs}
+use Rattle.deeds.proofs.do_port_read.Statement.{statement}
+use Rattle.deeds.proofs.do_port_read.Tie as tie
+
+bad-requires : tie.Need-bad-requires
+bad-requires c κs = search needs
+
+returns : tie.Need-returns
+unfolding portReadDeed
+returns c = rw (lt-ltb _ _ (c .before .if1 .taken)) (c .bad .ensures)
+
+cast-port-read : tie.Need-cast-port-read
+cast-port-read c = search needs
+
+port-read-requires : tie.Need-port-read-requires
+port-read-requires c κs = search needs
+
+port-read-told-requires : tie.Need-port-read-told-requires
+port-read-told-requires c κs = search needs
+
+returns-2 : tie.Need-returns-2
+unfolding portReadDeed
+returns-2 c = rw (le-ltb _ _ (c .before .before .if1 .left)) (ap (λ (x : Reply). leaves x (c .before .before .before .args .s)) (c .port-read-told .ensures ∙ c .before .port-read .ensures))
+
+pub do-port-read-spec : {M : Type 1} → statement M
+do-port-read-spec =
+    tie.close
+    (tie.spec
+    bad-requires
+    returns
+    cast-port-read
+    port-read-requires
+    port-read-told-requires
+    returns-2)

@@ -1,0 +1,40 @@
+-- A port write.
+use mathlib.Core.Path.{ap, _∙_}
+use borrow.Author.Tests.{lt-ltb, le-ltb}
+use Rattle.answer.specs.Refusals.{Reply}
+use Rattle.deeds.specs.Told.{leaves}
+use Rattle.deeds.specs.Door.{portWriteDeed}
+use borrow.Author.Needs.{needs}
+use Rattle.deeds.proofs.do_port_write.Statement.{statement}
+use Rattle.deeds.proofs.do_port_write.Tie as tie
+
+bad-requires : tie.Need-bad-requires
+bad-requires c κs = search needs
+
+returns : tie.Need-returns
+unfolding portWriteDeed
+returns c = rw (lt-ltb _ _ (c .before .if1 .taken)) (c .bad .ensures)
+
+cast-port-write : tie.Need-cast-port-write
+cast-port-write c = search needs
+
+port-write-requires : tie.Need-port-write-requires
+port-write-requires c κs = search needs
+
+port-write-told-requires : tie.Need-port-write-told-requires
+port-write-told-requires c κs = search needs
+
+returns-2 : tie.Need-returns-2
+unfolding portWriteDeed
+returns-2 c = rw (le-ltb _ _ (c .before .before .before .if1 .left)) (ap (λ (x : Reply). leaves x (c .before .before .port-write .result .state)) (c .port-write-told .ensures) ∙ c .before .before .port-write .ensures)
+
+pub do-port-write-spec : {M : Type 1} → statement M
+do-port-write-spec =
+    tie.close
+    (tie.spec
+    bad-requires
+    returns
+    cast-port-write
+    port-write-requires
+    port-write-told-requires
+    returns-2)

@@ -1,0 +1,19 @@
+-- A guest read.
+use mathlib.Core.Path.{ap, _∙_}
+use Rattle.answer.specs.Refusals.{Reply}
+use Rattle.deeds.specs.Told.{leaves}
+use borrow.Author.Needs.{needs}
+use Rattle.deeds.proofs.do_read.Statement.{statement}
+use Rattle.deeds.proofs.do_read.Tie as tie
+
+read-requires : tie.Need-read-requires
+read-requires c κs = search needs
+
+read-told-requires : tie.Need-read-told-requires
+read-told-requires c κs = search needs
+
+returns : tie.Need-returns
+returns c = ap (λ (x : Reply). leaves x (c .before .before .args .s)) (c .read-told .ensures ∙ c .before .read .ensures)
+
+pub do-read-spec : {M : Type 1} → statement M
+do-read-spec = tie.close (tie.spec read-requires read-told-requires returns)

@@ -1,0 +1,20 @@
+-- A platform reset.
+use mathlib.Core.Path.{ap, _∙_}
+use Rattle.answer.specs.Refusals.{Reply, ok}
+use Rattle.rules.specs.declared.State.{State}
+use Rattle.deeds.specs.Told.{leaves}
+use borrow.Author.Needs.{needs}
+use Rattle.deeds.proofs.do_reset.Statement.{statement}
+use Rattle.deeds.proofs.do_reset.Tie as tie
+
+ok-requires : tie.Need-ok-requires
+ok-requires c κs = search needs
+
+platform-reset-requires : tie.Need-platform-reset-requires
+platform-reset-requires c κs = search needs
+
+returns : tie.Need-returns
+returns c = ap (λ (x : Reply). leaves x (c .platform-reset .result)) (c .before .ok .ensures) ∙ ap (λ (x : State). leaves (ok 0) x) (c .platform-reset .ensures)
+
+pub do-reset-spec : {M : Type 1} → statement M
+do-reset-spec = tie.close (tie.spec ok-requires platform-reset-requires returns)

@@ -1,0 +1,56 @@
+-- The one door to every operation, by its number.
+use Prim.Native.Nat.{ℕ, _+_, _*_, _^_}
+use Rattle.bits.specs.Choice.{if_then_else_, _is_, _<?_}
+use Rattle.answer.specs.Refusals.{LINE}
+use Rattle.rules.specs.declared.State.{State}
+use Rattle.rules.specs.Access.{Outcome, done, refused}
+use Rattle.rules.specs.Fresh.{freshOf}
+use Rattle.rules.specs.Guest.{writeOf}
+use Rattle.rules.specs.Read.{readOf, imageOf}
+use Rattle.rules.specs.Host.{hostOf}
+use Rattle.rules.specs.Ports.{portReadOf, portWriteOf}
+use Rattle.rules.specs.Claims.{memoryClaimOf, ioClaimOf}
+use Rattle.probe.specs.Probe.{probeOf}
+use Rattle.walk.specs.Walk.{walkOf}
+use Rattle.deeds.specs.Told.{leaves, claimReply, probeReply, walkReply}
+
+-- an argument above its greatest value is a line of no form
+abbrev pub upTo : ℕ → ℕ → State → Outcome → Outcome
+upTo most x s o = if most <? x then refused LINE s else o
+
+-- a host update's offset, mask byte and value byte
+unfoldable pub hostDeed : State → ℕ → ℕ → ℕ → Outcome
+hostDeed s a b c = upTo 255 b s (upTo 255 c s (hostOf s a b c))
+
+-- a port, its width, and a value
+unfoldable pub portWriteDeed : State → ℕ → ℕ → ℕ → Outcome
+portWriteDeed s a b c = upTo 65535 a s (portWriteOf s a b c)
+
+unfoldable pub portReadDeed : State → ℕ → ℕ → Outcome
+portReadDeed s a b = upTo 65535 a s (leaves (portReadOf s a b) s)
+
+-- the low and the high dword of an address
+unfoldable pub memoryDeed : State → ℕ → ℕ → Outcome
+memoryDeed s a b = leaves (claimReply (memoryClaimOf s (b * 2 ^ 32 + a))) s
+
+unfoldable pub portDeed : State → ℕ → Outcome
+portDeed s a = upTo 65535 a s (leaves (claimReply (ioClaimOf s a)) s)
+
+-- a walk over the function's bytes as a guest reads them, for an ID
+unfoldable pub walkDeed : State → ℕ → Outcome
+walkDeed s a = upTo 255 a s (leaves (walkReply (walkOf (imageOf s) a)) s)
+
+-- an operation's number and three arguments; those that it has no use for have no say
+unfoldable pub doorOf : State → ℕ → ℕ → ℕ → ℕ → Outcome
+doorOf s op a b c =
+    if op is 0 then done freshOf
+    else if op is 1 then writeOf s a b c
+    else if op is 2 then leaves (readOf s a b) s
+    else if op is 3 then hostDeed s a b c
+    else if op is 4 then portWriteDeed s a b c
+    else if op is 5 then portReadDeed s a b
+    else if op is 6 then memoryDeed s a b
+    else if op is 7 then portDeed s a
+    else if op is 8 then leaves (probeReply (probeOf a b)) s
+    else if op is 9 then walkDeed s a
+    else refused LINE s

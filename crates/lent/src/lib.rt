@@ -1,0 +1,63 @@
+// The state lent as one record, and updated where it lies: what a bench in C, or in any language that calls C, links.
+ghost use mathlib.Core.Path.{_≡_};
+ghost use Rattle.answer.specs.Refusals.{no};
+ghost use Rattle.rules.specs.Guest.{writeOf};
+ghost use Rattle.rules.specs.Read.{readOf};
+ghost use Rattle.rules.specs.Fresh.{freshOf};
+ghost use Rattle.probe.specs.Probe.{probeOf};
+ghost use Rattle.walk.specs.Walk.{walkOf};
+ghost use Rattle.deeds.specs.Told.{heard, leaves, probeReply, walkReply};
+ghost use Rattle.deeds.specs.Door.{doorOf};
+use rules::State;
+
+// A platform reset; also what makes a record the fresh state.
+#[no_mangle]
+pub extern "C" fn twin_platform_reset(s: &mut State)
+    ensures { λ _. ⌜ now (s .exit) ≡ freshOf ⌝ }
+{
+    *s = twin::fresh();
+}
+
+// A guest write; the function reset that it may start is performed within it. The result is the refusal's number, 0 where it is accepted.
+#[no_mangle]
+pub extern "C" fn twin_write_by_value(s: &mut State, offset: u32, lanes: u32, value: u32) -> u32
+    ensures { λ r. ⌜ leaves (no r) (now (s .exit)) ≡ writeOf (now (s .entry)) offset lanes value ⌝ }
+{
+    let w = twin::write(*s, offset, lanes, value);
+    *s = w.state;
+    deeds::write_number(w)
+}
+
+// A guest read.
+#[no_mangle]
+pub extern "C" fn twin_read(s: &State, offset: u32, lanes: u32) -> u64
+    ensures { λ r. ⌜ heard r ≡ readOf (now (s .entry)) offset lanes ⌝ }
+{
+    deeds::read(*s, offset, lanes)
+}
+
+// The operation of number `op`.
+#[no_mangle]
+pub extern "C" fn twin_do(s: &mut State, op: u32, a: u32, b: u32, c: u32) -> u64
+    ensures { λ r. ⌜ leaves (heard r) (now (s .exit)) ≡ doorOf (now (s .entry)) op a b c ⌝ }
+{
+    let d = deeds::perform(*s, op, a, b, c);
+    *s = d.state;
+    deeds::pack(d)
+}
+
+// A size probe.
+#[no_mangle]
+pub extern "C" fn twin_probe(low: u32, high: u32) -> u64
+    ensures { λ r. ⌜ heard r ≡ probeReply (probeOf low high) ⌝ }
+{
+    deeds::probe(low, high)
+}
+
+// A capability walk over any bytes.
+#[no_mangle]
+pub extern "C" fn twin_walk(bytes: &[u8], wanted: u8) -> u64
+    ensures { λ r. ⌜ heard r ≡ walkReply (walkOf (now (bytes .entry)) wanted) ⌝ }
+{
+    deeds::walk(bytes, wanted)
+}
