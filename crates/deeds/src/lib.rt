@@ -9,10 +9,13 @@ ghost use Rattle.rules.specs.Guest.{writeOf};
 ghost use Rattle.rules.specs.Read.{readOf};
 ghost use Rattle.probe.specs.Probe.{probeOf, probeSays};
 ghost use Rattle.walk.specs.Walk.{walkOf, saysOf};
+ghost use Rattle.map.specs.Map.{guests};
+ghost use Rattle.writes.specs.Bytes.{lent, writeLanes};
 ghost use Rattle.deeds.specs.Told.{heard, leaves, said, did, claimReply, probeReply, walkReply};
 ghost use Rattle.deeds.specs.Door.{hostDeed, portWriteDeed, portReadDeed, memoryDeed, portDeed, walkDeed, doorOf};
 use probe::Probed;
 use rules::Claim;
+use rules::Closed;
 use rules::HostAnswer;
 use rules::PortReadAnswer;
 use rules::PortWriteAnswer;
@@ -361,14 +364,40 @@ pub fn pack(d: Deed) -> u64
     packed(t)
 }
 
-// A guest write by value, for the lent record: the number alone crosses.
-pub fn write_number(w: Written) -> u32
-    ensures { λ r. ⌜ no r ≡ writeSays (w .answer) ⌝ }
+// ---- a guest write for the lent record: the number alone crosses
+
+fn number(a: WriteAnswer) -> u32
+    ensures { λ r. ⌜ no r ≡ writeSays a ⌝ }
 {
-    let a = w.answer;
     match a {
         WriteAnswer::Done => 0,
         WriteAnswer::Offset => answer::OFFSET,
         WriteAnswer::Lanes => answer::LANES,
+    }
+}
+
+pub fn write_number(w: Written) -> u32
+    ensures { λ r. ⌜ no r ≡ writeSays (w .answer) ⌝ }
+{
+    let a = w.answer;
+    number(a)
+}
+
+pub struct Stored {
+    pub number: u32,
+    pub closed: Closed,
+}
+
+// The same over the record's bytes, which are lent on, with its flags by value: nothing is copied.
+pub fn put(m: &mut [u8; 256], c: Closed, offset: u32, lanes: u32, value: u32) -> Stored
+    ensures { λ r. ⌜ lent (no (r .number)) (now (m .exit)) (r .closed) ≡ writeLanes guests c (now (m .entry)) offset lanes value ⌝ }
+{
+    let guest = map::all_guests();
+    let w = writes::write(m, &guest, c, offset, lanes, value);
+    let a = w.answer;
+    let after = w.closed;
+    Stored {
+        number: number(a),
+        closed: after,
     }
 }

@@ -19,6 +19,18 @@ pub extern "C" fn twin_platform_reset(s: &mut State)
 }
 
 // A guest write; the function reset that it may start is performed within it. The result is the refusal's number, 0 where it is accepted.
+// The record's bytes are lent on to the leaf, so nothing is copied.
+#[no_mangle]
+pub extern "C" fn twin_write(s: &mut State, offset: u32, lanes: u32, value: u32) -> u32
+    ensures { λ r. ⌜ leaves (no r) (now (s .exit)) ≡ writeOf (now (s .entry)) offset lanes value ⌝ }
+{
+    let c = s.closed;
+    let w = deeds::put(&mut s.bytes, c, offset, lanes, value);
+    s.closed = w.closed;
+    w.number
+}
+
+// The same above the by-value step: the record is copied in, and its state out.
 #[no_mangle]
 pub extern "C" fn twin_write_by_value(s: &mut State, offset: u32, lanes: u32, value: u32) -> u32
     ensures { λ r. ⌜ leaves (no r) (now (s .exit)) ≡ writeOf (now (s .entry)) offset lanes value ⌝ }

@@ -1,7 +1,7 @@
 -- The number of a write.
 use borrow.Author.Needs.{needs}
-use Rattle.deeds.proofs.write_number.Statement.{statement}
-use Rattle.deeds.proofs.write_number.Tie as tie
+use Rattle.deeds.proofs.number.Statement.{statement}
+use Rattle.deeds.proofs.number.Tie as tie
 
 enum-told : tie.Need-enum-told
 enum-told c = search needs
@@ -21,6 +21,6 @@ returns-2 c = rw (c .enum-told2 .given .1)
 returns-3 : tie.Need-returns-3
 returns-3 c = rw (c .enum-told3 .given .1)
 
-pub write-number-spec : {M : Type 1} → statement M
-write-number-spec =
+pub number-spec : {M : Type 1} → statement M
+number-spec =
     tie.close (tie.spec enum-told enum-told-2 enum-told-3 returns returns-2 returns-3)
