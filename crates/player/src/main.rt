@@ -1,9 +1,8 @@
 // The session player: standard input in blocks, the answers of each block in one write.
-use libc::STDIN_FILENO;
 use libc::STDOUT_FILENO;
 use rules::Closed;
 ghost use mathlib.Core.Path.{_≡_};
-ghost use Prim.Native.Nat.{_+_, _≤_};
+ghost use Prim.Native.Nat.{_≤_};
 ghost use lib.ListN.{length};
 
 struct After {
@@ -32,15 +31,6 @@ fn last(
     io::write_all(STDOUT_FILENO, &out[..n]);
 }
 
-// Reads once, behind the k bytes that are kept.
-fn fill(buf: &mut [u8], k: usize) -> usize
-    requires { ⌜ k ≤ length (now buf) ⌝ }
-    ensures { λ r. ⌜ (k + r ≤ length (now (buf .exit))) × (length (now (buf .exit)) ≡ length (now (buf .entry))) ⌝ }
-{
-    let got = libc::read(STDIN_FILENO, &mut buf[k..]);
-    io::count(got, &buf[k..])
-}
-
 // Reads once, answers each line that is complete, and keeps the unfinished one.
 fn turn(
     guest: &[u8; 256],
@@ -54,7 +44,7 @@ fn turn(
     requires { ⌜ (k ≤ 16) × (length (now buf) ≡ 8208) × (length (now out) ≡ 98496) ⌝ }
     ensures { λ r. ⌜ (r .kept ≤ 16) × (length (now (buf .exit)) ≡ 8208) × (length (now (out .exit)) ≡ 98496) ⌝ }
 {
-    let n = fill(buf, k);
+    let n = input::fill(buf, k);
     if n == 0 {
         last(guest, host, m, c, buf, k, out);
         return After {

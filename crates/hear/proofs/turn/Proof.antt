@@ -1,11 +1,11 @@
 -- One read and its lines, within the buffers.
 use mathlib.Core.Path.{sym}
-use native.Mathlib.Omega.{arith}
 use Prim.Native.Nat.{_+_}
+use native.Mathlib.Omega.{arith}
 use lib.Seq.{length-take-le}
 use borrow.Author.Needs.{needs}
-use Rattle.console.proofs.turn.Statement.{statement}
-use Rattle.console.proofs.turn.Tie as tie
+use Rattle.hear.proofs.turn.Statement.{statement}
+use Rattle.hear.proofs.turn.Tie as tie
 
 fill-requires : tie.Need-fill-requires
 fill-requires c κs = search needs
@@ -36,19 +36,10 @@ talk-requires c κs =
     let f = c .before .before .before .before .before .fill in
     omega (arith, length-take-le (c .before .before .before .before .before .before .before .before .before .args .k + f .result) (f .last .0) (omega arith))
 
-slice-reshare-prefix-write-all : tie.Need-slice-reshare-prefix-write-all
-slice-reshare-prefix-write-all c = search needs
-
-slice-aggregate-write-all : tie.Need-slice-aggregate-write-all
-slice-aggregate-write-all c = sym (length-take-le _ _ (omega arith))
-
-write-all-requires : tie.Need-write-all-requires
-write-all-requires c κs = search needs
-
 keep-requires : tie.Need-keep-requires
 keep-requires c κs =
-    let f = c .before .before .before .before .before .before .before .before .before .before .before .fill in
-    (omega (arith, c .before .before .before .before .before .talk .ensures .1 .0 .0, length-take-le (c .before .before .before .before .before .before .before .before .before .before .before .before .before .before .before .args .k + f .result) (f .last .0) (omega arith)), omega arith)
+    let f = c .before .before .before .before .before .before .before .before .before .fill in
+    (omega (arith, c .before .before .before .talk .ensures .1 .0 .0, length-take-le (c .before .before .before .before .before .before .before .before .before .before .before .before .before .args .k + f .result) (f .last .0) (omega arith)), omega arith)
 
 same-length-3 : tie.Need-same-length-3
 same-length-3 c = search needs
@@ -72,9 +63,6 @@ turn-spec =
     slice-reshare-prefix-talk
     slice-aggregate-talk
     talk-requires
-    slice-reshare-prefix-write-all
-    slice-aggregate-write-all
-    write-all-requires
     keep-requires
     same-length-3
     same-length-4

@@ -1,0 +1,73 @@
+// Console lines from standard input, a block at a time: what they say, and the state after them.
+use rules::State;
+ghost use mathlib.Core.Path.{_≡_};
+ghost use Prim.Native.Nat.{_≤_};
+ghost use lib.ListN.{length};
+
+// The answers are the first `filled` bytes of the buffer for them; `on` says that more may come.
+pub struct Heard {
+    pub filled: usize,
+    pub kept: usize,
+    pub state: State,
+    pub on: bool,
+}
+
+// What is kept of a line, and a block.
+pub fn in_buffer() -> [u8; 4116]
+    ensures { λ r. ⌜ 4116 ≡ length r ⌝ }
+{
+    [0; 4116]
+}
+
+// An answer is at most 24 bytes, and a line at least one.
+pub fn out_buffer() -> [u8; 98784]
+    ensures { λ r. ⌜ 98784 ≡ length r ⌝ }
+{
+    [0; 98784]
+}
+
+// The last line may lack its LF.
+fn last(s: State, buf: &[u8], k: usize, out: &mut [u8]) -> Heard
+    requires { ⌜ (k ≤ length (now buf)) × (length (now out) ≡ 98784) ⌝ }
+    ensures { λ r. ⌜ (r .kept ≤ 20) × (r .filled ≤ 98784) × (length (now (out .exit)) ≡ 98784) ⌝ }
+{
+    if k == 0 {
+        return Heard {
+            filled: 0,
+            kept: 0,
+            state: s,
+            on: false,
+        };
+    }
+    let r = talk::reply(s, &buf[..k], out, 0);
+    let filled = r.filled;
+    let state = r.state;
+    Heard {
+        filled,
+        kept: 0,
+        state,
+        on: false,
+    }
+}
+
+// Reads once, answers each line that is complete, and keeps the unfinished one.
+pub fn turn(s: State, buf: &mut [u8], k: usize, out: &mut [u8]) -> Heard
+    requires { ⌜ (k ≤ 20) × (length (now buf) ≡ 4116) × (length (now out) ≡ 98784) ⌝ }
+    ensures { λ r. ⌜ (r .kept ≤ 20) × (r .filled ≤ 98784) × (length (now (buf .exit)) ≡ 4116) × (length (now (out .exit)) ≡ 98784) ⌝ }
+{
+    let n = input::fill(buf, k);
+    if n == 0 {
+        return last(s, buf, k, out);
+    }
+    let end = k + n;
+    let r = talk::talk(s, &buf[..end], out);
+    let kept = talk::keep(buf, r.at, end);
+    let filled = r.filled;
+    let state = r.state;
+    Heard {
+        filled,
+        kept,
+        state,
+        on: true,
+    }
+}

@@ -1,0 +1,46 @@
+// A snapshot: plays a session of console lines silently, and writes the 256 bytes as a guest reads them in the form of `lspci -n -xxx`.
+use libc::STDOUT_FILENO;
+use rules::State;
+ghost use mathlib.Core.Path.{_≡_};
+ghost use Prim.Native.Nat.{_≤_};
+ghost use lib.ListN.{length, take};
+ghost use Rattle.rules.specs.Read.{imageOf};
+ghost use Rattle.dumps.specs.Dump.{dumpText};
+
+// The dump of what a guest reads.
+fn show(s: State, out: &mut [u8]) -> usize
+    requires { ⌜ 866 ≤ length (now out) ⌝ }
+    ensures { λ r. ⌜ take r (now (out .exit)) ≡ dumpText (imageOf s) ⌝ }
+    ensures { λ r. ⌜ (r ≤ length (now (out .exit))) × (length (now (out .exit)) ≡ length (now (out .entry))) ⌝ }
+{
+    let b = twin::image(s);
+    dumps::put_dump(out, &b)
+}
+
+// The state after all of standard input; the answers are dropped.
+fn listen(buf: &mut [u8], out: &mut [u8]) -> State
+    requires { ⌜ (length (now buf) ≡ 4116) × (length (now out) ≡ 98784) ⌝ }
+    ensures { λ _. ⌜ length (now (out .exit)) ≡ 98784 ⌝ }
+{
+    let mut s = twin::fresh();
+    let mut k: usize = 0;
+    let mut turns = u64::MAX;
+    while turns > 0 {
+        let t = hear::turn(s, buf, k, out);
+        s = t.state;
+        if !t.on {
+            return s;
+        }
+        k = t.kept;
+        turns -= 1;
+    }
+    s
+}
+
+fn main() {
+    let mut buf = hear::in_buffer();
+    let mut out = hear::out_buffer();
+    let s = listen(&mut buf, &mut out);
+    let n = show(s, &mut out);
+    io::write_all(STDOUT_FILENO, &out[..n]);
+}
