@@ -12,7 +12,8 @@ use Rattle.rules.specs.Ports.{portReadOf, portWriteOf}
 use Rattle.rules.specs.Claims.{memoryClaimOf, ioClaimOf}
 use Rattle.probe.specs.Probe.{probeOf}
 use Rattle.walk.specs.Walk.{walkOf}
-use Rattle.deeds.specs.Told.{leaves, claimReply, probeReply, walkReply}
+use Rattle.tells.specs.Told.{leaves, said, claimReply, probeReply, walkReply}
+use Rattle.deeds.specs.declared.Deed.{Deed}
 
 -- an argument above its greatest value is a line of no form
 abbrev pub upTo : ℕ → ℕ → State → Outcome → Outcome
@@ -54,3 +55,8 @@ doorOf s op a b c =
     else if op is 8 then leaves (probeReply (probeOf a b)) s
     else if op is 9 then walkDeed s a
     else refused LINE s
+
+-- ---- what the code's record says
+
+abbrev pub did : Deed → Outcome
+did d = leaves (said (d .told)) (d .state)

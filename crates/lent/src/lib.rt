@@ -6,7 +6,7 @@ ghost use Rattle.rules.specs.Read.{readOf};
 ghost use Rattle.rules.specs.Fresh.{freshOf};
 ghost use Rattle.probe.specs.Probe.{probeOf};
 ghost use Rattle.walk.specs.Walk.{walkOf};
-ghost use Rattle.deeds.specs.Told.{heard, leaves, probeReply, walkReply};
+ghost use Rattle.tells.specs.Told.{heard, leaves, probeReply, walkReply};
 ghost use Rattle.deeds.specs.Door.{doorOf};
 use rules::State;
 
@@ -45,7 +45,7 @@ pub extern "C" fn twin_write_by_value(s: &mut State, offset: u32, lanes: u32, va
 pub extern "C" fn twin_read(s: &State, offset: u32, lanes: u32) -> u64
     ensures { λ r. ⌜ heard r ≡ readOf (now (s .entry)) offset lanes ⌝ }
 {
-    deeds::read(*s, offset, lanes)
+    tells::read(*s, offset, lanes)
 }
 
 // The operation of number `op`.
@@ -63,7 +63,7 @@ pub extern "C" fn twin_do(s: &mut State, op: u32, a: u32, b: u32, c: u32) -> u64
 pub extern "C" fn twin_probe(low: u32, high: u32) -> u64
     ensures { λ r. ⌜ heard r ≡ probeReply (probeOf low high) ⌝ }
 {
-    deeds::probe(low, high)
+    tells::probe(low, high)
 }
 
 // A capability walk over any bytes.
@@ -71,5 +71,5 @@ pub extern "C" fn twin_probe(low: u32, high: u32) -> u64
 pub extern "C" fn twin_walk(bytes: &[u8], wanted: u8) -> u64
     ensures { λ r. ⌜ heard r ≡ walkReply (walkOf (now (bytes .entry)) wanted) ⌝ }
 {
-    deeds::walk(bytes, wanted)
+    tells::walk(bytes, wanted)
 }

@@ -1,7 +1,7 @@
 -- A line of no form changes nothing.
 use mathlib.Core.Path.{ap}
 use Rattle.answer.specs.Refusals.{Reply}
-use Rattle.deeds.specs.Told.{leaves}
+use Rattle.tells.specs.Told.{leaves}
 use borrow.Author.Needs.{needs}
 use Rattle.deeds.proofs.bad.Statement.{statement}
 use Rattle.deeds.proofs.bad.Tie as tie

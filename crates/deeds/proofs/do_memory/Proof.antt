@@ -1,7 +1,7 @@
 -- A claim of a memory address.
 use mathlib.Core.Path.{ap, _∙_}
 use Rattle.answer.specs.Refusals.{Reply}
-use Rattle.deeds.specs.Told.{leaves, claimReply}
+use Rattle.tells.specs.Told.{leaves, claimReply}
 use Rattle.deeds.specs.Door.{memoryDeed}
 use borrow.Author.Needs.{needs}
 use Rattle.deeds.proofs.do_memory.Statement.{statement}

@@ -1,7 +1,7 @@
 -- A size probe.
 use mathlib.Core.Path.{ap, _∙_}
 use Rattle.answer.specs.Refusals.{Reply}
-use Rattle.deeds.specs.Told.{leaves, probeReply}
+use Rattle.tells.specs.Told.{leaves, probeReply}
 use borrow.Author.Needs.{needs}
 use Rattle.deeds.proofs.do_probe.Statement.{statement}
 use Rattle.deeds.proofs.do_probe.Tie as tie

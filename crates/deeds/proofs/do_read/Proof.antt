@@ -1,7 +1,7 @@
 -- A guest read.
 use mathlib.Core.Path.{ap, _∙_}
 use Rattle.answer.specs.Refusals.{Reply}
-use Rattle.deeds.specs.Told.{leaves}
+use Rattle.tells.specs.Told.{leaves}
 use borrow.Author.Needs.{needs}
 use Rattle.deeds.proofs.do_read.Statement.{statement}
 use Rattle.deeds.proofs.do_read.Tie as tie

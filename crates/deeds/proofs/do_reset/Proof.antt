@@ -2,7 +2,7 @@
 use mathlib.Core.Path.{ap, _∙_}
 use Rattle.answer.specs.Refusals.{Reply, ok}
 use Rattle.rules.specs.declared.State.{State}
-use Rattle.deeds.specs.Told.{leaves}
+use Rattle.tells.specs.Told.{leaves}
 use borrow.Author.Needs.{needs}
 use Rattle.deeds.proofs.do_reset.Statement.{statement}
 use Rattle.deeds.proofs.do_reset.Tie as tie

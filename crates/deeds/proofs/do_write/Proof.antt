@@ -1,7 +1,7 @@
 -- A guest write.
 use mathlib.Core.Path.{ap, _∙_}
 use Rattle.answer.specs.Refusals.{Reply}
-use Rattle.deeds.specs.Told.{leaves}
+use Rattle.tells.specs.Told.{leaves}
 use borrow.Author.Needs.{needs}
 use Rattle.deeds.proofs.do_write.Statement.{statement}
 use Rattle.deeds.proofs.do_write.Tie as tie

@@ -41,9 +41,9 @@ use denote.Exit.{yes}
 use Rattle.rules.specs.declared.State.{State}
 use Rattle.deeds.specs.declared.Deed.{Deed}
 use Rattle.answer.specs.Refusals.{Reply}
-use Rattle.deeds.specs.Told.{leaves, said, did}
-use Rattle.deeds.specs.Told as told
-use Rattle.deeds.specs.Door.{doorOf}
+use Rattle.tells.specs.Told.{leaves, said}
+use Rattle.tells.specs.Told as told
+use Rattle.deeds.specs.Door.{doorOf, did}
 use Rattle.rules.proofs.State as T
 use Rattle.rules.proofs.State.Laws as T′
 use Rattle.deeds.proofs.Deed as N

@@ -55,7 +55,7 @@ use Rattle.writes.specs.Bytes.{lent, writeLanes}
 use Rattle.writes.proofs.Bridge.{write-is}
 use Rattle.writes.proofs.Bridge as bridge
 use Rattle.deeds.specs.declared.Stored.{Stored}
-use Rattle.deeds.specs.Told.{leaves}
+use Rattle.tells.specs.Told.{leaves}
 use Rattle.rules.proofs.State as T
 use Rattle.rules.proofs.State.Laws as T′
 use Rattle.rules.proofs.Closed as K

@@ -43,7 +43,7 @@ use Rattle.rules.specs.declared.Written.{Written}
 use Rattle.rules.specs.Guest.{writeOf}
 use Rattle.rules.specs.Answers.{writeSays, wrote}
 use Rattle.answer.specs.Refusals.{Reply, no}
-use Rattle.deeds.specs.Told.{leaves}
+use Rattle.tells.specs.Told.{leaves}
 use Rattle.rules.proofs.State as T
 use Rattle.rules.proofs.State.Laws as T′
 use Rattle.rules.proofs.Written as N

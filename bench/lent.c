@@ -1,0 +1,218 @@
+// The library's guest write and read over a lent record against a plain C twin in place, on the same accesses in the same run.
+// lent [CALLS [ROUNDS]]       prints ratios
+// lent --only NAME CALLS      makes the calls of one entry, for a counter of instructions
+#include <inttypes.h>
+#include <stdio.h>
+#include <stdlib.h>
+#include <string.h>
+#include <time.h>
+
+#include "../include/twin.h"
+#include "plain_entries.h"
+
+// ---- the accesses: any dword, any lanes, any value; one in 16 is refused
+
+enum { ACCESSES = 1 << 16 };
+
+struct access {
+    uint32_t offset, lanes, value;
+};
+
+static struct access accesses[ACCESSES];
+
+static uint64_t next(uint64_t *x)
+{
+    *x ^= *x << 13;
+    *x ^= *x >> 7;
+    *x ^= *x << 17;
+    return *x;
+}
+
+static void make_accesses(void)
+{
+    uint64_t x = 88172645463325252;
+    for (int i = 0; i < ACCESSES; i++) {
+        uint64_t r = next(&x);
+        struct access *a = &accesses[i];
+        a->offset = r & 0xFC;
+        a->lanes = r >> 8 & 0xF;
+        a->value = r >> 32;
+        if ((r >> 16 & 0x1F) == 0)
+            a->offset |= 1 + (r >> 21) % 3;
+        if ((r >> 16 & 0x1F) == 1)
+            a->lanes |= 0x10;
+    }
+}
+
+// ---- the entries; each gives a sum of what it hears, so that no call can be left out
+
+static struct plain plain;
+static twin_state lent;
+
+static uint64_t plain_writes(long calls)
+{
+    uint64_t sum = 0;
+    for (long i = 0; i < calls; i++) {
+        const struct access *a = &accesses[i % ACCESSES];
+        sum += (uint64_t)plain_write(&plain, a->offset, a->lanes, a->value);
+    }
+    return sum;
+}
+
+static uint64_t plain_reads(long calls)
+{
+    uint64_t sum = 0;
+    for (long i = 0; i < calls; i++) {
+        const struct access *a = &accesses[i % ACCESSES];
+        uint32_t value = 0;
+        sum += (uint64_t)plain_read(&plain, a->offset, a->lanes, &value) << 48;
+        sum += value;
+    }
+    return sum;
+}
+
+static uint64_t lent_writes(long calls)
+{
+    uint64_t sum = 0;
+    for (long i = 0; i < calls; i++) {
+        const struct access *a = &accesses[i % ACCESSES];
+        sum += twin_write(&lent, a->offset, a->lanes, a->value);
+    }
+    return sum;
+}
+
+static uint64_t value_writes(long calls)
+{
+    uint64_t sum = 0;
+    for (long i = 0; i < calls; i++) {
+        const struct access *a = &accesses[i % ACCESSES];
+        sum += twin_write_by_value(&lent, a->offset, a->lanes, a->value);
+    }
+    return sum;
+}
+
+static uint64_t door_writes(long calls)
+{
+    uint64_t sum = 0;
+    for (long i = 0; i < calls; i++) {
+        const struct access *a = &accesses[i % ACCESSES];
+        sum += twin_do(&lent, 1, a->offset, a->lanes, a->value) >> 48;
+    }
+    return sum;
+}
+
+static uint64_t lent_reads(long calls)
+{
+    uint64_t sum = 0;
+    for (long i = 0; i < calls; i++) {
+        const struct access *a = &accesses[i % ACCESSES];
+        sum += twin_read(&lent, a->offset, a->lanes);
+    }
+    return sum;
+}
+
+static uint64_t door_reads(long calls)
+{
+    uint64_t sum = 0;
+    for (long i = 0; i < calls; i++) {
+        const struct access *a = &accesses[i % ACCESSES];
+        sum += twin_do(&lent, 2, a->offset, a->lanes, 0);
+    }
+    return sum;
+}
+
+struct entry {
+    const char *name;
+    uint64_t (*run)(long calls);
+    int against; // the plain entry that it is held to
+};
+
+enum { PLAIN_WRITE, PLAIN_READ };
+
+static const struct entry ENTRIES[] = {
+    {"plain-write", plain_writes, PLAIN_WRITE},
+    {"plain-read", plain_reads, PLAIN_READ},
+    {"write", lent_writes, PLAIN_WRITE},
+    {"write-by-value", value_writes, PLAIN_WRITE},
+    {"door-write", door_writes, PLAIN_WRITE},
+    {"read", lent_reads, PLAIN_READ},
+    {"door-read", door_reads, PLAIN_READ},
+};
+
+enum { COUNT = sizeof ENTRIES / sizeof *ENTRIES };
+
+static void fresh(void)
+{
+    plain_platform_reset(&plain);
+    twin_platform_reset(&lent);
+}
+
+// ---- the check: every entry hears what plain C hears, and leaves the same bytes
+
+static void check(void)
+{
+    for (int e = 0; e < COUNT; e++) {
+        const struct entry *held = &ENTRIES[ENTRIES[e].against];
+        fresh();
+        plain_writes(1000);
+        lent_writes(1000);
+        uint64_t theirs = held->run(4 * ACCESSES);
+        if (e <= PLAIN_READ)
+            continue;
+        uint64_t ours = ENTRIES[e].run(4 * ACCESSES);
+        if (ours != theirs || memcmp(lent.bytes, plain.bytes, sizeof lent.bytes) != 0) {
+            fprintf(stderr, "lent: %s and plain C differ\n", ENTRIES[e].name);
+            exit(1);
+        }
+    }
+    puts("Every entry and plain C hear the same and leave the same bytes.");
+}
+
+// ---- the measure
+
+static volatile uint64_t heard;
+
+static double seconds(const struct entry *e, long calls)
+{
+    clock_t from = clock();
+    heard = e->run(calls);
+    return (double)(clock() - from) / CLOCKS_PER_SEC;
+}
+
+static void measure(long calls, int rounds)
+{
+    double best[COUNT];
+    for (int round = 0; round < rounds; round++)
+        for (int e = 0; e < COUNT; e++) {
+            double now = seconds(&ENTRIES[e], calls);
+            if (round == 0 || now < best[e])
+                best[e] = now;
+        }
+    printf("%-15s %8s %10s\n", "entry", "/ C", "ns a call");
+    for (int e = 0; e < COUNT; e++)
+        printf("%-15s %8.2f %10.1f\n", ENTRIES[e].name, best[e] / best[ENTRIES[e].against], best[e] / calls * 1e9);
+}
+
+static int only(const char *name, long calls)
+{
+    for (int e = 0; e < COUNT; e++)
+        if (strcmp(ENTRIES[e].name, name) == 0) {
+            printf("%" PRIu64 "\n", ENTRIES[e].run(calls));
+            return 0;
+        }
+    fprintf(stderr, "lent: no entry %s\n", name);
+    return 1;
+}
+
+int main(int argc, char **argv)
+{
+    make_accesses();
+    fresh();
+    if (argc == 4 && strcmp(argv[1], "--only") == 0)
+        return only(argv[2], atol(argv[3]));
+    long calls = argc > 1 ? atol(argv[1]) : 20000000;
+    int rounds = argc > 2 ? atoi(argv[2]) : 5;
+    check();
+    measure(calls, rounds);
+    return 0;
+}
