@@ -1,4 +1,4 @@
--- A console line: the call at its places, as the code takes it apart.
+-- A console line: the call at its places, as the code takes it apart; proofs/Forms.antt shows that a line is a call exactly when it is of its form.
 use mathlib.Core.List.{List}
 use Prim.Native.Nat.{ℕ, zero, suc, _+_, _*_, _%_}
 use lib.ListN.{getD, length}
