@@ -18,7 +18,7 @@ getD-from zero f i n h = absurd (omega arith)
 getD-from (suc k) f i zero h = ap f (sym (add-zero i))
 getD-from (suc k) f i (suc n) h = getD-from k f (suc i) n (omega arith) ∙ ap f (suc-add i n ∙ sym (add-suc i n))
 
-length-from : (k : ℕ) (f : ℕ → ℕ) (i : ℕ) → length (from k f i) ≡ k
+pub length-from : (k : ℕ) (f : ℕ → ℕ) (i : ℕ) → length (from k f i) ≡ k
 length-from zero f i = refl
 length-from (suc k) f i = ap suc (length-from k f (suc i))
 
@@ -34,9 +34,12 @@ getD-bytes f i h = getD-from 256 f 0 i h ∙ ap f (zero-add i)
 pub length-bytes : (f : ℕ → ℕ) → length (bytes f) ≡ 256
 length-bytes f = length-from 256 f 0
 
--- 256 bytes are what they hold at each place
+-- a list is what it holds at each place
+pub as-from : (k : ℕ) (l : List ℕ) (f : ℕ → ℕ) → length l ≡ k → ((i : ℕ) → i < k → getD l i 0 ≡ f i) → l ≡ from k f 0
+as-from k l f n e = ext-getD 0 l (from k f 0) (n ∙ sym (length-from k f 0)) (λ i h. let h′ : i < k = rw n at h in e i h′ ∙ sym (getD-from k f 0 i h′ ∙ ap f (zero-add i)))
+
 pub as-bytes : (l : List ℕ) (f : ℕ → ℕ) → length l ≡ 256 → ((i : ℕ) → i < 256 → getD l i 0 ≡ f i) → l ≡ bytes f
-as-bytes l f n e = ext-getD 0 l (bytes f) (n ∙ sym (length-bytes f)) (λ i h. let h′ : i < 256 = rw n at h in e i h′ ∙ sym (getD-bytes f i h′))
+as-bytes l f n e = as-from 256 l f n e
 
 pub bytes-ext : (f g : ℕ → ℕ) → ((i : ℕ) → i < 256 → f i ≡ g i) → bytes f ≡ bytes g
 bytes-ext f g e = as-bytes (bytes f) g (length-bytes f) (λ i h. getD-bytes f i h ∙ e i h)

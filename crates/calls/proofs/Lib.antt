@@ -1,2 +1,3 @@
 pub mod Digits
 pub mod Long
+pub mod Forms

@@ -1,8 +1,9 @@
--- A console line: the call at its places, as the code takes it apart.
+-- A console line: the call at its places, as the code takes it apart; proofs/Forms.antt shows that a line is a call exactly when it is of its form.
 use mathlib.Core.List.{List}
 use Prim.Native.Nat.{ℕ, zero, suc, _+_, _*_, _%_}
 use lib.ListN.{getD, length}
 use Rattle.bits.specs.Choice.{if_then_else_, _is_, _<?_}
+use Rattle.lines.specs.Ascii.{letter}
 use Rattle.lines.specs.Line.{digitOf, commandOf}
 use Rattle.lines.specs.declared.Command.the-variants as C
 use Rattle.calls.specs.declared.Hex.{Hex}
@@ -29,7 +30,7 @@ number l i k = hexFrom k l i 0
 
 -- a space stands at place i
 abbrev pub spaced : List ℕ → ℕ → Call → Call
-spaced l i c = if getD l i 0 is 32 then c else none
+spaced l i c = if getD l i 0 is letter " " then c else none
 
 -- `O pppp w vvvvvvvv`
 unfoldable pub portWriteOf : List ℕ → Call
@@ -58,10 +59,10 @@ walkOf l = spaced l 1 (with (number l 2 2) (λ (i : ℕ). Walk (i % 256)))
 -- by its length and its letter; every other line is the player's
 unfoldable pub callOf : List ℕ → Call
 callOf l =
-    if length l is 17 then (if getD l 0 0 is 79 then portWriteOf l else none)
-    else if length l is 8 then (if getD l 0 0 is 73 then portReadOf l else none)
-    else if length l is 18 then (if getD l 0 0 is 65 then memoryOf l else none)
-    else if length l is 19 then (if getD l 0 0 is 83 then probeOf l else none)
-    else if length l is 4 then (if getD l 0 0 is 75 then walkOf l else none)
-    else if length l is 6 then (if getD l 0 0 is 78 then portOf l else Line (commandOf l))
+    if length l is 17 then (if getD l 0 0 is letter "O" then portWriteOf l else none)
+    else if length l is 8 then (if getD l 0 0 is letter "I" then portReadOf l else none)
+    else if length l is 18 then (if getD l 0 0 is letter "A" then memoryOf l else none)
+    else if length l is 19 then (if getD l 0 0 is letter "S" then probeOf l else none)
+    else if length l is 4 then (if getD l 0 0 is letter "K" then walkOf l else none)
+    else if length l is 6 then (if getD l 0 0 is letter "N" then portOf l else Line (commandOf l))
     else Line (commandOf l)

@@ -6,7 +6,7 @@ use Prim.Native.Nat.{ℕ, zero, suc, _+_, _*_, _/_, _%_, _^_, _<_, _≤_}
 use native.Mathlib.Omega.{arith}
 use native.Mathlib.Nat.{pow-suc, one-le-pow, div-one, div-eq-of-lt, div-div-eq-div-mul, lt-div-mul-add}
 use native.Mathlib.Decide.{decLt}
-use borrow.Author.Tests.{le-ltb, ltb-false}
+use borrow.Author.Tests.{eqb-true, le-ltb, ltb-false}
 use lib.Dec.{eqb, ltb, eqb→eq}
 use lib.ListN.{length}
 use Rattle.bits.specs.Choice.{either, pick}
@@ -19,6 +19,9 @@ use Rattle.lines.specs.Line.{digitOf, pairOf}
 pub picked {ℓ} : {A : Type ℓ} (P : A → Type 0) (b : Bool) (x y : A) → (b ≡ true → P x) → (b ≡ false → P y) → P (pick b x y)
 picked P true x y f g = f refl
 picked P false x y f g = g refl
+
+pub picked-is {ℓ} : {A : Type ℓ} (P : A → Type 0) (m n : ℕ) (x y : A) → (m ≡ n → P x) → P y → P (pick (eqb m n) x y)
+picked-is P m n x y f g = picked P (eqb m n) x y (λ t. f (eqb-true m n t)) (λ t. g)
 
 -- ---- one digit
 

@@ -1,15 +1,15 @@
 -- A line is a command exactly when it is of that command's form.
-use mathlib.Core.Path.{_≡_, refl, sym, ap, _∙_}
-use mathlib.Core.List.{List, [], _∷_}
-use mathlib.Core.Logic.{_↔_, _⊎_, inl, inr, ⊎-elim}
-use Prim.Native.Nat.{ℕ, suc, _+_, _≤_}
+use mathlib.Core.Path.{_≡_, refl, sym, _∙_}
+use mathlib.Core.List.{List}
+use mathlib.Core.Logic.{_↔_, _⊎_, inl, inr}
+use Prim.Native.Nat.{ℕ, _≤_}
 use native.Mathlib.Omega.{arith}
-use native.Mathlib.Nat.{zero-add, add-zero, add-suc, suc-add}
-use borrow.Author.Tests.{eqb-true, ltb-false}
+use borrow.Author.Tests.{ltb-false}
 use lib.Dec.{eqb, ltb}
 use lib.ListN.{length}
 use Rattle.bits.specs.Choice.{pick}
 use Rattle.bits.specs.Places.{from}
+use Rattle.bits.proofs.Places.{as-from}
 use Rattle.bits.proofs.Tests.{tests}
 use Rattle.lines.specs.declared.Command.{Command}
 use Rattle.lines.specs.declared.Command.the-variants.{Write, Read, Host, Reset, Bad}
@@ -17,7 +17,8 @@ use Rattle.lines.specs.Ascii.{ascii}
 use Rattle.lines.specs.Hex.{upOf, hexOf}
 use Rattle.lines.specs.Line.{at, writeCommandOf, readCommandOf, hostCommandOf, commandOf}
 use Rattle.lines.specs.Form.{formOf, InRange}
-use Rattle.lines.proofs.Digits.{printed-reads, reads-printed, digit-reads, reads-digit, pair-reads, reads-pair, eight-reads, reads-eight, picked}
+use Rattle.lines.proofs.Digits.{printed-reads, reads-printed, digit-reads, reads-digit, pair-reads, reads-pair, eight-reads, reads-eight, picked, picked-is}
+use Rattle.lines.proofs.Exactly as E
 
 -- ---- the forms
 
@@ -50,12 +51,8 @@ formed Bad r = absurd r
 -- ---- a line that is read as a command is its form
 
 -- a list is its elements
-elements : (l : List ℕ) (f : ℕ → ℕ) (i : ℕ) → ((j : ℕ) → at l j ≡ f (i + j)) → l ≡ from (length l) f i
-elements [] f i e = refl
-elements (x ∷ l) f i e = rw (e 0, add-zero) (ap {B = List ℕ} (λ (t : List ℕ). f i ∷ t) (elements l f (suc i) (λ j. e (suc j) ∙ ap f (add-suc i j ∙ sym (suc-add i j)))))
-
-of-length : (n : ℕ) (l : List ℕ) → length l ≡ n → l ≡ from n (at l) 0
-of-length n l e = elements l (at l) 0 (λ j. ap (at l) (sym (zero-add j))) ∙ rw e
+pub of-length : (n : ℕ) (l : List ℕ) → length l ≡ n → l ≡ from n (at l) 0
+of-length n l e = as-from n l (at l) e (λ i h. refl)
 
 module _ (l : List ℕ) where
   -- l is the form of the command that it is read as
@@ -66,7 +63,7 @@ module _ (l : List ℕ) where
   none n = absurd (n refl)
 
   if-is : (m n : ℕ) (x y : Command) → (m ≡ n → Its x) → Its y → Its (pick (eqb m n) x y)
-  if-is m n x y f g = picked Its (eqb m n) x y (λ t. f (eqb-true m n t)) (λ t. g)
+  if-is m n x y = picked-is Its m n x y
 
   if-within : (m n : ℕ) (x : Command) → (n ≤ m → Its x) → Its (pick (ltb m n) Bad x)
   if-within m n x f = picked Its (ltb m n) Bad x (λ t. none) (λ t. f (ltb-false m n t))
@@ -74,30 +71,30 @@ module _ (l : List ℕ) where
   its : Its (commandOf l)
   unfolding commandOf formOf writeCommandOf readCommandOf hostCommandOf
   its =
-      if-is (length l) 15 _ _
-      (λ n. if-is (at l 0) 87 _ _ (λ w. if-is (at l 1) 32 _ _ (λ s1. if-is (at l 4) 32 _ _ (λ s4. if-is (at l 6) 32 _ _ (λ s6.
+      if-is (length l) _ _ _
+      (λ n. if-is (at l 0) _ _ _ (λ w. if-is (at l 1) _ _ _ (λ s1. if-is (at l 4) _ _ _ (λ s4. if-is (at l 6) _ _ _ (λ s6.
       if-within 255 _ _ (λ ho. if-within 15 _ _ (λ hl. if-within 255 _ _ (λ ha. if-within 255 _ _ (λ hb. if-within 255 _ _ (λ hc. if-within 255 _ _ (λ hd _.
       let o = reads-printed (pair-reads (at l 2) (at l 3) ho) in
       let k = reads-printed (digit-reads (at l 5) hl) in
       let v = reads-printed (eight-reads (at l 7) (at l 8) (at l 9) (at l 10) (at l 11) (at l 12) (at l 13) (at l 14) ha hb hc hd) in
       ((o .0, k .0, v .0), of-length 15 l n ∙ rw (o .1, k .1, v .1, w, s1, s4, s6)))))))))
       none) none) none) none)
-      (if-is (length l) 6 _ _
-      (λ n. if-is (at l 0) 82 _ _ (λ r. if-is (at l 1) 32 _ _ (λ s1. if-is (at l 4) 32 _ _ (λ s4.
+      (if-is (length l) _ _ _
+      (λ n. if-is (at l 0) _ _ _ (λ r. if-is (at l 1) _ _ _ (λ s1. if-is (at l 4) _ _ _ (λ s4.
       if-within 255 _ _ (λ ho. if-within 15 _ _ (λ hl _.
       let o = reads-printed (pair-reads (at l 2) (at l 3) ho) in
       let k = reads-printed (digit-reads (at l 5) hl) in
       ((o .0, k .0), of-length 6 l n ∙ rw (o .1, k .1, r, s1, s4)))))
       none) none) none)
-      (if-is (length l) 10 _ _
-      (λ n. if-is (at l 0) 72 _ _ (λ h. if-is (at l 1) 32 _ _ (λ s1. if-is (at l 4) 32 _ _ (λ s4. if-is (at l 7) 32 _ _ (λ s7.
+      (if-is (length l) _ _ _
+      (λ n. if-is (at l 0) _ _ _ (λ h. if-is (at l 1) _ _ _ (λ s1. if-is (at l 4) _ _ _ (λ s4. if-is (at l 7) _ _ _ (λ s7.
       if-within 255 _ _ (λ ho. if-within 255 _ _ (λ hm. if-within 255 _ _ (λ hv _.
       let o = reads-printed (pair-reads (at l 2) (at l 3) ho) in
       let m = reads-printed (pair-reads (at l 5) (at l 6) hm) in
       let v = reads-printed (pair-reads (at l 8) (at l 9) hv) in
       ((o .0, m .0, v .0), of-length 10 l n ∙ rw (o .1, m .1, v .1, h, s1, s4, s7))))))
       none) none) none) none)
-      (if-is (length l) 1 _ _ (λ n. if-is (at l 0) 80 _ _ (λ p _. (tt, of-length 1 l n ∙ rw p)) none) none)))
+      (if-is (length l) _ _ _ (λ n. if-is (at l 0) _ _ _ (λ p _. (tt, of-length 1 l n ∙ rw p)) none) none)))
 
 pub only-forms : (l : List ℕ) → (commandOf l ≡ Bad → ⊥) → InRange (commandOf l) × (l ≡ formOf (commandOf l))
 only-forms l = its l
@@ -106,18 +103,15 @@ only-forms l = its l
 
 -- a line is a command exactly when it is of that command's form
 pub exactly : (l : List ℕ) (k : Command) → (k ≡ Bad → ⊥) → (commandOf l ≡ k) ↔ (InRange k × (l ≡ formOf k))
-exactly l k n = (λ e. rw e at (only-forms l (λ b. n (sym e ∙ b))), λ r. rw (r .1) (formed k (r .0)))
+exactly l k n = E.exactly commandOf formOf InRange Bad formed only-forms l k n
 
-bad-or : (k : Command) → (k ≡ Bad) ⊎ (k ≡ Bad → ⊥)
-bad-or (Write o l v) = inr (λ e. let z : _≡_ {A = ℕ} 0 1 = cc in omega arith)
-bad-or (Read o l) = inr (λ e. let z : _≡_ {A = ℕ} 0 1 = cc in omega arith)
-bad-or (Host o m v) = inr (λ e. let z : _≡_ {A = ℕ} 0 1 = cc in omega arith)
-bad-or Reset = inr (λ e. let z : _≡_ {A = ℕ} 0 1 = cc in omega arith)
+pub bad-or : (k : Command) → (k ≡ Bad) ⊎ (k ≡ Bad → ⊥)
+bad-or (Write o l v) = inr (λ e. E.apart cc)
+bad-or (Read o l) = inr (λ e. E.apart cc)
+bad-or (Host o m v) = inr (λ e. E.apart cc)
+bad-or Reset = inr (λ e. E.apart cc)
 bad-or Bad = inl refl
 
 -- and it is none exactly when it is of no command's form
 pub none-exactly : (l : List ℕ) → (commandOf l ≡ Bad) ↔ ((k : Command) → InRange k → l ≡ formOf k → ⊥)
-none-exactly l = (
-  λ e k r f. let b : k ≡ Bad = sym (formed k r) ∙ ap commandOf (sym f) ∙ e in rw b at r,
-  λ h. ⊎-elim (λ e. e) (λ n. let r = only-forms l n in absurd (h (commandOf l) (r .0) (r .1))) (bad-or (commandOf l)),
-)
+none-exactly l = E.none-exactly commandOf formOf InRange Bad formed only-forms (λ r. r) bad-or l

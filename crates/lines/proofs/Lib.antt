@@ -1,4 +1,5 @@
 pub mod Long
 pub mod Digits
+pub mod Exactly
 pub mod Forms
 mod Which

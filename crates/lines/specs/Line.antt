@@ -4,6 +4,7 @@ use Prim.Native.Nat.{ℕ, _+_, _-_, _*_}
 use lib.Dec.{ltb, eqb}
 use lib.ListN.{getD, length}
 use Rattle.bits.specs.Choice.{pick}
+use Rattle.lines.specs.Ascii.{letter}
 use Rattle.lines.specs.declared.Command.{Command}
 use Rattle.lines.specs.declared.Command.the-variants.{Write, Read, Host, Reset, Bad}
 
@@ -31,15 +32,15 @@ at l i = getD l i 0
 unfoldable pub commandOf : List ℕ → Command
 commandOf l =
     pick (eqb (length l) 15)
-    (pick (eqb (at l 0) 87) (pick (eqb (at l 1) 32) (pick (eqb (at l 4) 32) (pick (eqb (at l 6) 32)
+    (pick (eqb (at l 0) (letter "W")) (pick (eqb (at l 1) (letter " ")) (pick (eqb (at l 4) (letter " ")) (pick (eqb (at l 6) (letter " "))
     (writeCommandOf (pairOf (at l 2) (at l 3)) (digitOf (at l 5)) (pairOf (at l 7) (at l 8)) (pairOf (at l 9) (at l 10)) (pairOf (at l 11) (at l 12)) (pairOf (at l 13) (at l 14)))
     Bad) Bad) Bad) Bad)
     (pick (eqb (length l) 6)
-    (pick (eqb (at l 0) 82) (pick (eqb (at l 1) 32) (pick (eqb (at l 4) 32)
+    (pick (eqb (at l 0) (letter "R")) (pick (eqb (at l 1) (letter " ")) (pick (eqb (at l 4) (letter " "))
     (readCommandOf (pairOf (at l 2) (at l 3)) (digitOf (at l 5)))
     Bad) Bad) Bad)
     (pick (eqb (length l) 10)
-    (pick (eqb (at l 0) 72) (pick (eqb (at l 1) 32) (pick (eqb (at l 4) 32) (pick (eqb (at l 7) 32)
+    (pick (eqb (at l 0) (letter "H")) (pick (eqb (at l 1) (letter " ")) (pick (eqb (at l 4) (letter " ")) (pick (eqb (at l 7) (letter " "))
     (hostCommandOf (pairOf (at l 2) (at l 3)) (pairOf (at l 5) (at l 6)) (pairOf (at l 8) (at l 9)))
     Bad) Bad) Bad) Bad)
-    (pick (eqb (length l) 1) (pick (eqb (at l 0) 80) Reset Bad) Bad)))
+    (pick (eqb (length l) 1) (pick (eqb (at l 0) (letter "P")) Reset Bad) Bad)))

@@ -169,6 +169,11 @@ pub fn line_end(s: &[u8], a: usize) -> usize
     requires { ⌜ a ≤ length (now s) ⌝ }
     ensures { λ r. ⌜ (r ≡ a + runOf (drop a (now (s .entry)))) × (r ≤ length (now (s .entry))) ⌝ }
 {
+    if a < s.len() {
+        if s[a] == b'\n' {
+            return a;
+        }
+    }
     let mut i = skip(s, a);
     while i < s.len() {
         if s[i] == b'\n' {

@@ -1,0 +1,28 @@
+-- The forms of a console line: the player's, and `O pppp w vvvvvvvv`, `I pppp w`, `A aaaaaaaaaaaaaaaa`, `N pppp`, `S llllllll hhhhhhhh`, `K ii`.
+use mathlib.Core.List.{List}
+use Prim.Native.Nat.{ℕ, _^_, _<_}
+use Rattle.lines.specs.Ascii.{ascii}
+use Rattle.lines.specs.Hex.{hexOf}
+use Rattle.lines.specs.Form.{_␣_, formOf, InRange}
+use Rattle.calls.specs.declared.Call.{Call}
+use Rattle.calls.specs.declared.Call.the-variants.{Line, PortWrite, PortRead, Memory, Port, Probe, Walk}
+
+-- a call as it is printed
+unfoldable pub callForm : Call → List ℕ
+callForm (Line k) = formOf k
+callForm (PortWrite p w v) = ascii "O" ␣ hexOf 4 p ␣ hexOf 1 w ␣ hexOf 8 v
+callForm (PortRead p w) = ascii "I" ␣ hexOf 4 p ␣ hexOf 1 w
+callForm (Memory a) = ascii "A" ␣ hexOf 16 a
+callForm (Port p) = ascii "N" ␣ hexOf 4 p
+callForm (Probe l h) = ascii "S" ␣ hexOf 8 l ␣ hexOf 8 h
+callForm (Walk i) = ascii "K" ␣ hexOf 2 i
+
+-- the numbers that its digits can say
+abbrev pub CallInRange : Call → Type 0
+CallInRange (Line k) = InRange k
+CallInRange (PortWrite p w v) = (p < 2 ^ 16) × (w < 16) × (v < 2 ^ 32)
+CallInRange (PortRead p w) = (p < 2 ^ 16) × (w < 16)
+CallInRange (Memory a) = a < 2 ^ 64
+CallInRange (Port p) = p < 2 ^ 16
+CallInRange (Probe l h) = (l < 2 ^ 32) × (h < 2 ^ 32)
+CallInRange (Walk i) = i < 256
