@@ -20,9 +20,12 @@ fn mode() -> Option<Mode> {
 }
 
 fn main() -> ExitCode {
-    let Some(mode) = mode() else {
-        eprintln!("usage: second [player|console]");
-        return ExitCode::from(2);
+    let mode = match mode() {
+        Some(mode) => mode,
+        None => {
+            eprintln!("usage: second [player|console]");
+            return ExitCode::from(2);
+        }
     };
     match play(&mut io::stdin().lock(), &mut io::stdout().lock(), mode) {
         Ok(()) => ExitCode::SUCCESS,

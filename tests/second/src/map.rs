@@ -3,8 +3,6 @@
 //! [`paper`] repeats the paper's table row by row, in its order and with its
 //! masks. A bit that no row gives a class stays read-only.
 
-use std::sync::OnceLock;
-
 /// Configuration bytes of the function.
 pub const BYTES: usize = 256;
 /// Configuration bits of the function.
@@ -151,8 +149,8 @@ impl Register<'_> {
 
 /// The paper's map.
 pub fn paper() -> &'static Map {
-    static MAP: OnceLock<Map> = OnceLock::new();
-    MAP.get_or_init(table)
+    thread_local!(static MAP: &'static Map = Box::leak(Box::new(table())));
+    MAP.with(|map| *map)
 }
 
 /// The paper's table.

@@ -8,8 +8,9 @@
 /// of any other form is an error.
 pub fn console_line(line: &str) -> Result<String, String> {
     let parts: Vec<&str> = line.split(' ').collect();
-    let [verb, port, width, value] = parts.as_slice() else {
-        return Err(format!("not four fields: {line:?}"));
+    let (verb, port, width, value) = match parts.as_slice() {
+        [verb, port, width, value] => (verb, port, width, value),
+        _ => return Err(format!("not four fields: {line:?}")),
     };
     let port = hex(port, 0xFFFF).ok_or_else(|| format!("not a port: {port:?}"))?;
     let width = bytes(width).ok_or_else(|| format!("not a width: {width:?}"))?;

@@ -102,7 +102,7 @@ struct Access {
 impl Access {
     /// Accepts an access, or refuses it by offset and then by lanes.
     fn checked(offset: u32, lanes: u32) -> Result<Access, Refusal> {
-        if offset > 255 || !offset.is_multiple_of(4) {
+        if offset > 255 || offset % 4 != 0 {
             return Err(Refusal::Offset);
         }
         if lanes > 15 {

@@ -240,9 +240,12 @@ fn check_all(arguments: &Arguments, agreed: &mut Agreed) -> Result<(), Trouble> 
 }
 
 fn main() -> ExitCode {
-    let Some(arguments) = Arguments::read(std::env::args().skip(1)) else {
-        eprintln!("{USAGE}");
-        return ExitCode::from(2);
+    let arguments = match Arguments::read(std::env::args().skip(1)) {
+        Some(arguments) => arguments,
+        None => {
+            eprintln!("{USAGE}");
+            return ExitCode::from(2);
+        }
     };
     let mut agreed = Agreed::default();
     match check_all(&arguments, &mut agreed) {

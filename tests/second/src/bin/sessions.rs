@@ -21,9 +21,12 @@ fn arguments() -> Option<(u64, u64, Mode)> {
 }
 
 fn main() -> ExitCode {
-    let Some((seed, lines, mode)) = arguments() else {
-        eprintln!("usage: sessions SEED LINES [player|console]");
-        return ExitCode::from(2);
+    let (seed, lines, mode) = match arguments() {
+        Some(arguments) => arguments,
+        None => {
+            eprintln!("usage: sessions SEED LINES [player|console]");
+            return ExitCode::from(2);
+        }
     };
     let mut output = BufWriter::new(io::stdout().lock());
     match write_session(&mut output, seed, lines, mode) {

@@ -3,14 +3,15 @@
 
 #![forbid(unsafe_code)]
 
-use std::io::{self, BufWriter, ErrorKind, Write};
+use std::io::{self, BufWriter, ErrorKind, Read, Write};
 use std::process::ExitCode;
 
 use second::trace::console_line;
 
 /// Turns all of the trace into console lines.
 fn convert() -> io::Result<()> {
-    let trace = io::read_to_string(io::stdin())?;
+    let mut trace = String::new();
+    io::stdin().read_to_string(&mut trace)?;
     let mut output = BufWriter::new(io::stdout().lock());
     for (index, line) in trace.split_terminator('\n').enumerate() {
         let console = console_line(line).map_err(|what| {
