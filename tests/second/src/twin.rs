@@ -66,28 +66,29 @@ impl SizeCode {
     }
 }
 
-/// Which write-once fields are closed.
+/// Which write-once fields are closed: 0 open, any other number closed. A
+/// write that touches a field leaves 1; another number is of foreign making.
 #[derive(Clone, Copy, Debug, Default, PartialEq, Eq)]
 struct Closed {
-    svid2: bool,
-    sid2: bool,
-    swsci_bit_15: bool,
+    svid2: u8,
+    sid2: u8,
+    swsci_bit_15: u8,
 }
 
 impl Closed {
     fn holds(self, field: Field) -> bool {
         match field {
-            Field::Svid2 => self.svid2,
-            Field::Sid2 => self.sid2,
-            Field::SwsciBit15 => self.swsci_bit_15,
+            Field::Svid2 => self.svid2 != 0,
+            Field::Sid2 => self.sid2 != 0,
+            Field::SwsciBit15 => self.swsci_bit_15 != 0,
         }
     }
 
     fn close(&mut self, field: Field) {
         match field {
-            Field::Svid2 => self.svid2 = true,
-            Field::Sid2 => self.sid2 = true,
-            Field::SwsciBit15 => self.swsci_bit_15 = true,
+            Field::Svid2 => self.svid2 = 1,
+            Field::Sid2 => self.sid2 = 1,
+            Field::SwsciBit15 => self.swsci_bit_15 = 1,
         }
     }
 }
@@ -165,6 +166,17 @@ enum Target {
     Data { offset: u32, first_lane: u32 },
 }
 
+/// The state as a bench lends it: any bytes, any latch, any three flags.
+#[derive(Clone, Copy, Debug, PartialEq, Eq)]
+pub struct Record {
+    /// The value of every bit, eight to a byte.
+    pub bytes: [u8; BYTES],
+    /// The port latch.
+    pub latch: u32,
+    /// The flags of SVID2, SID2 and SWSCI bit 15.
+    pub closed: [u8; 3],
+}
+
 /// The whole state of the function.
 #[derive(Clone, Debug, PartialEq, Eq)]
 pub struct Twin {
@@ -176,6 +188,42 @@ pub struct Twin {
 impl Default for Twin {
     fn default() -> Twin {
         Twin::fresh()
+    }
+}
+
+/// Records.
+impl Twin {
+    /// The state that a record is.
+    pub fn of_record(record: &Record) -> Twin {
+        let [svid2, sid2, swsci_bit_15] = record.closed;
+        Twin {
+            values: std::array::from_fn(|bit| record.bytes[bit / 8] >> (bit % 8) & 1 == 1),
+            closed: Closed {
+                svid2,
+                sid2,
+                swsci_bit_15,
+            },
+            latch: record.latch,
+        }
+    }
+
+    /// The state as a record.
+    pub fn record(&self) -> Record {
+        let Closed {
+            svid2,
+            sid2,
+            swsci_bit_15,
+        } = self.closed;
+        let byte = |at: usize| {
+            (0..8)
+                .filter(|place| self.values[bit_of(at, *place)])
+                .fold(0, |byte, place| byte | 1 << place)
+        };
+        Record {
+            bytes: std::array::from_fn(byte),
+            latch: self.latch,
+            closed: [svid2, sid2, swsci_bit_15],
+        }
     }
 }
 

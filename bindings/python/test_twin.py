@@ -1,0 +1,128 @@
+"""The paper's checked examples, its refusals, and the record's layout, through the Python module."""
+import random
+import unittest
+
+import twin
+from twin import Claim, Found, Kind, Range, Refusal, Refused, Twin, Window
+
+ALL = 0xFFFFFFFF
+
+
+class Paper(unittest.TestCase):
+    def refused(self, number, call, *arguments, count=0):
+        with self.assertRaises(Refused) as caught:
+            call(*arguments)
+        self.assertEqual((caught.exception.number, caught.exception.count), (number, count))
+
+    def after(self, *writes):
+        t = Twin()
+        for write in writes:
+            t.write(*write)
+        return t
+
+    def test_reads_and_writes(self):
+        for writes, offset, lanes, value in [
+                ([], 0x00, 0xF, 0x01528086),
+                ([(0x04, 0xF, ALL)], 0x04, 0xF, 0x00900407),
+                ([(0x10, 0xF, ALL)], 0x10, 0xF, 0xFFC00004),
+                ([(0x18, 0xF, ALL)], 0x18, 0xF, 0xF000000C),
+                ([(0x18, 0xF, ALL), (0x60, 0x4, 0x00060000)], 0x18, 0xF, 0xE000000C),
+                ([(0x60, 0x4, 0x00F40000)], 0x60, 0x4, 0x00F20000),
+                ([(0x20, 0xF, ALL)], 0x20, 0xF, 0x0000FFC1),
+                ([(0x7C, 0x8, 0x01000000)], 0x34, 0xF, 0x000000D0),
+                ([(0xD4, 0x1, 1)], 0xD4, 0x1, 0),
+                ([(0xD4, 0x1, 1), (0xD4, 0x1, 3)], 0xD4, 0x1, 3),
+                ([(0xE8, 0x2, 0), (0xE8, 0xF, 0x8001)], 0xE8, 0xF, 1),
+                ([(0x2C, 0x3, 0x1234), (0xA8, 0x1, 1), (0x2C, 0x3, 0xFFFF)], 0x2C, 0x3, 0x1234)]:
+            with self.subTest(writes=writes):
+                self.assertEqual(self.after(*writes).read(offset, lanes), value)
+
+    def test_layout(self):
+        t = self.after((0x2C, 0x8, 0xAB000000), (0xFC, 0xF, 0x44332211))
+        t.port_write(0xCF8, 4, 0x80FEDCB8)
+        record = t.record()
+        self.assertEqual(len(record), 264)
+        self.assertEqual(record[0x00:0x04].hex(), "86805201")
+        self.assertEqual(record[0x2C:0x30].hex(), "000000ab")
+        self.assertEqual(record[0xFC:0x104].hex(), "11223344b8dcfe80")
+        self.assertEqual(record[0x104:0x107].hex(), "000100")
+        self.assertEqual((t.state.latch, t.state.closed.sid2), (0x80FEDCB8, 1))
+
+    def test_host_updates(self):
+        t = Twin()
+        t.host_update(0x02, 0x0F, 0xFA)
+        self.assertEqual(t.read(0x00, 0xF), 0x015A8086)
+        t.host_update(0x00, 0x00, 0xFF)
+        self.refused(Refusal.NOT_HOST, t.host_update, 0x00, 0x01, 0x01)
+        self.refused(Refusal.OFFSET, t.host_update, 0x100, 0x00, 0x00)
+
+    def test_ports(self):
+        t = Twin()
+        self.refused(Refusal.NOT_OURS, t.port_read, 0xCFC, 4)
+        t.port_write(0xCF8, 4, 0x80001000)
+        self.assertEqual(t.port_read(0xCF8, 4), 0x80001000)
+        self.assertEqual(t.port_read(0xCFE, 2), 0x0152)
+        self.refused(Refusal.NOT_OURS, t.port_read, 0xCFF, 2)
+        self.refused(Refusal.WIDTH, t.port_read, 0xCFC, 3)
+        t.port_write(0xCF8, 4, 0x80000000)
+        self.refused(Refusal.OTHER_FUNCTION, t.port_write, 0xCFC, 1, 0)
+
+    def test_claims(self):
+        t = self.after((0x04, 0x1, 0x03), (0x10, 0xF, 0x00400000), (0x14, 0xF, 0x12),
+                       (0x18, 0xF, 0xF0000000), (0x1C, 0xF, ALL), (0x20, 0xF, 0xE040))
+        self.assertEqual(t.claim_memory(0x12007FFFFF), Claim(Window.TRANSLATION, 0x3FFFFF))
+        self.assertIsNone(t.claim_memory(0x1200800000))
+        self.assertEqual(t.claim_memory((1 << 64) - 1), Claim(Window.APERTURE, 0x0FFFFFFF))
+        self.assertEqual(t.claim_port(0xE07F), Claim(Window.IO, 0x3F))
+        self.assertIsNone(t.claim_port(0xE080))
+
+    def test_probe(self):
+        self.assertEqual(twin.probe(0xF000000C, ALL), Range(Kind.MEMORY64, 28))
+        self.assertEqual(twin.probe(0xFFFFFFF0, 0), Range(Kind.MEMORY32, 4))
+        self.assertEqual(twin.probe(0x0000FFC1, 0), Range(Kind.IO, 6))
+        self.refused(Refusal.NO_RANGE, twin.probe, 2, ALL)
+
+    def test_walk(self):
+        t = Twin()
+        self.assertEqual(t.walk(0x13), Found(0xA4, 3))
+        self.assertEqual(t.walk(0x10), Found(None, 3))
+        t.write(0x7C, 0x8, 0x01000000)
+        image = bytearray(t.image())
+        self.assertEqual((image[0x34], t.state.bytes[0x34]), (0xD0, 0x90))
+        self.assertEqual(twin.walk(image, 0x13), Found(0xA4, 2))
+        image[0xA5] = 0x3F
+        self.refused(Refusal.POINTER, twin.walk, image, 0x77, count=2)
+        image[0xA5] = 0xD0
+        self.refused(Refusal.ENDLESS, twin.walk, image, 0x77, count=48)
+        for other in [b"", image[:255], image + b"\0"]:
+            self.refused(Refusal.LENGTH, twin.walk, other, 0x13)
+
+    def test_refusals_leave_every_byte(self):
+        made = random.Random(1)
+        for _ in range(20):
+            t = Twin(made.randbytes(264))
+            t.state.latch &= 0x7FFFFFFF  # no data access is ours
+            before = t.record()
+            self.refused(Refusal.OFFSET, t.write, 0x2D, 0xF, ALL)
+            self.refused(Refusal.LANES, t.write, 0x2C, 0x10, ALL)
+            self.refused(Refusal.OFFSET, t.read, 0x100, 0xF)
+            self.refused(Refusal.NOT_HOST, t.host_update, 0x2C, 0x01, 0x01)
+            self.refused(Refusal.NOT_OURS, t.port_write, 0xCFC, 4, ALL)
+            self.refused(Refusal.WIDTH, t.port_write, 0xCF8, 0, ALL)
+            self.assertEqual(t.record(), before)
+
+    def test_numbers_that_do_not_fit(self):
+        t = Twin()
+        before = t.record()
+        for call, arguments in [
+                (t.write, (1 << 32, 0xF, 0)), (t.write, (0, 0xF, 1 << 32)), (t.write, (-1, 0xF, 0)), (t.read, (0, 1 << 32)),
+                (t.host_update, (0x02, 0x100, 0)), (t.host_update, (0x02, 0, 0x100)), (t.port_write, (0x10CF8, 4, 0)),
+                (t.port_read, (0x10CF8, 4)), (t.claim_memory, (1 << 64,)), (t.claim_port, (0x10000,)), (t.walk, (0x113,)),
+                (twin.walk, (bytes(256), 0x100)), (twin.probe, (1 << 32, 0)), (Twin, (bytes(263),))]:
+            with self.subTest(call=call.__name__, arguments=arguments), self.assertRaises(ValueError):
+                call(*arguments)
+        self.assertEqual(t.record(), before)
+
+
+if __name__ == "__main__":
+    unittest.main()

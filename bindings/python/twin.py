@@ -1,0 +1,226 @@
+"""The twin of the graphics function, for Python: one state record that the library updates where it lies, and every entry over it.
+
+    import twin
+    t = twin.Twin()
+    t.write(0x2C, 0x3, 0x1234)       # SVID2 is written, and closed
+    t.write(0xA8, 0x1, 0x0001)       # a function reset
+    t.write(0x2C, 0x3, 0xFFFF)       # accepted, and changes nothing
+    hex(t.read(0x2C, 0x3))           # '0x1234'
+
+A refused access changes nothing and raises Refused, which has the paper's number. A number that does not fit an entry's type raises ValueError before the library sees it.
+
+The library is the shared object that the variable TWIN_LIBRARY names, or target/libtwin.so of this repository. To make it (x86-64 Linux):
+
+    rt staticlib lent
+    cc -shared -o target/libtwin.so -Wl,--whole-archive target/staticlib/liblent.a -Wl,--no-whole-archive
+
+What the library does is proved; what stands here only packs and unpacks, and is tested. One Twin is for one thread at a time; different ones share nothing.
+"""
+import collections
+import ctypes
+import enum
+import os
+import pathlib
+
+__all__ = ["Claim", "Closed", "Found", "Kind", "Range", "Refusal", "Refused", "State", "Twin", "Window", "probe", "walk"]
+
+
+class Refusal(enum.IntEnum):
+    """The paper's refusal numbers."""
+    LENGTH = 1
+    WIDTH = 2
+    NOT_OURS = 3
+    OTHER_FUNCTION = 4
+    OFFSET = 5
+    LANES = 6
+    NOT_HOST = 7
+    NO_RANGE = 8
+    LINE = 9
+    POINTER = 10
+    ENDLESS = 11
+
+
+class Refused(Exception):
+    """An access was refused, and changed nothing. `number` is a Refusal; `count` is a walk's count, 0 for others."""
+
+    def __init__(self, number, count=0):
+        self.number = Refusal(number)
+        self.count = count
+        super().__init__(f"refusal {int(self.number)}, {self.number.name.replace('_', ' ')}")
+
+
+class Window(enum.IntEnum):
+    """The window that claims an address."""
+    TRANSLATION = 1  # GTTMMADR
+    APERTURE = 2     # GMADR
+    IO = 3           # IOBAR
+
+
+class Kind(enum.IntEnum):
+    """The kind of range that a size probe tells."""
+    IO = 1
+    MEMORY32 = 2
+    MEMORY64 = 3
+
+
+Claim = collections.namedtuple("Claim", "window offset")
+Range = collections.namedtuple("Range", "kind exponent")
+Found = collections.namedtuple("Found", "offset count")  # the offset is None where the item is absent
+
+
+class Closed(ctypes.Structure):
+    """Which write-once fields are closed: 0 open, any other number closed."""
+    _fields_ = [("svid2", ctypes.c_uint8), ("sid2", ctypes.c_uint8), ("swsci15", ctypes.c_uint8)]
+
+
+class State(ctypes.Structure):
+    """The record: 256 configuration bytes, the port latch, the write-once fields. Every pattern of bytes is a state."""
+    _fields_ = [("bytes", ctypes.c_uint8 * 256), ("latch", ctypes.c_uint32), ("closed", Closed)]
+
+
+assert ctypes.sizeof(State) == 264 and ctypes.alignment(State) == 4
+assert (State.bytes.offset, State.latch.offset, State.closed.offset) == (0, 256, 260)
+assert (Closed.svid2.offset, Closed.sid2.offset, Closed.swsci15.offset) == (0, 1, 2)
+
+# The operations of the door.
+_PLATFORM_RESET, _WRITE, _READ, _HOST_UPDATE, _PORT_WRITE, _PORT_READ, _CLAIM_MEMORY, _CLAIM_PORT, _PROBE, _WALK = range(10)
+
+
+def _library():
+    usual = pathlib.Path(__file__).resolve().parents[2] / "target" / "libtwin.so"
+    path = os.environ.get("TWIN_LIBRARY") or str(usual)
+    if not os.path.exists(path):
+        raise OSError(f"{path} is missing. In the repository: rt staticlib lent && cc -shared -o target/libtwin.so "
+                      "-Wl,--whole-archive target/staticlib/liblent.a -Wl,--no-whole-archive. TWIN_LIBRARY names another place")
+    lib = ctypes.CDLL(path)
+    state, u32, u64 = ctypes.POINTER(State), ctypes.c_uint32, ctypes.c_uint64
+    for name, result, arguments in [
+            ("twin_platform_reset", None, [state]),
+            ("twin_write", u32, [state, u32, u32, u32]),
+            ("twin_write_by_value", u32, [state, u32, u32, u32]),
+            ("twin_read", u64, [state, u32, u32]),
+            ("twin_do", u64, [state, u32, u32, u32, u32]),
+            ("twin_probe", u64, [u32, u32]),
+            ("twin_walk", u64, [ctypes.c_char_p, ctypes.c_size_t, ctypes.c_uint8])]:
+        function = getattr(lib, name)
+        function.restype, function.argtypes = result, arguments
+    return lib
+
+
+_lib = _library()
+
+
+def _fits(bits, *numbers):
+    """ctypes would cut a number that does not fit."""
+    for n in numbers:
+        if not 0 <= n < 1 << bits:
+            raise ValueError(f"{n} is no number of {bits} bits")
+
+
+def _accepted(number):
+    if number:
+        raise Refused(number)
+
+
+def _value(result):
+    _accepted(result >> 48)
+    return result & 0xFFFFFFFF
+
+
+def _claim(result):
+    window = result >> 32 & 0xFFFF
+    return Claim(Window(window), result & 0xFFFFFFFF) if window else None
+
+
+def _found(result):
+    number, count = result >> 48, result & 0xFFFFFFFF
+    if number:
+        raise Refused(number, count)
+    return Found(result >> 32 & 0xFF if result >> 40 & 1 else None, count)
+
+
+class Twin:
+    """The function, fresh, or over a record of any making. `state` is the record itself."""
+
+    def __init__(self, record=None):
+        """Without a record, the fresh state. A record is 264 bytes, which are copied."""
+        self.state = State()
+        if record is None:
+            self.platform_reset()
+        elif len(record) != ctypes.sizeof(State):
+            raise ValueError(f"a record has {ctypes.sizeof(State)} bytes, and not {len(record)}")
+        else:
+            ctypes.memmove(ctypes.byref(self.state), bytes(record), ctypes.sizeof(State))
+
+    def record(self):
+        """A copy of the record's 264 bytes; the last is padding."""
+        return bytes(self.state)
+
+    def _do(self, op, a=0, b=0, c=0):
+        return _lib.twin_do(ctypes.byref(self.state), op, a, b, c)
+
+    def platform_reset(self):
+        """Returns everything to the fresh state: defaults, fields open, latch 0."""
+        _lib.twin_platform_reset(ctypes.byref(self.state))
+
+    def write(self, offset, lanes, value):
+        """A guest write of the lanes' bytes at offset; refusals 5 and 6. Writing 1 to AFCTL bit 0 performs the function reset within it."""
+        _fits(32, offset, lanes, value)
+        _accepted(_lib.twin_write(ctypes.byref(self.state), offset, lanes, value))
+
+    def read(self, offset, lanes):
+        """A guest read: each enabled byte in its place and 00 in the others; refusals 5 and 6."""
+        _fits(32, offset, lanes)
+        return _value(_lib.twin_read(ctypes.byref(self.state), offset, lanes))
+
+    def host_update(self, offset, mask, value):
+        """A host update of the masked bits of one byte; refusals 5 and 7."""
+        _fits(32, offset)
+        _fits(8, mask, value)
+        _value(self._do(_HOST_UPDATE, offset, mask, value))
+
+    def port_write(self, port, width, value):
+        """A write of width bytes to a port; refusals 2, 3 and 4. 4 bytes at CF8h store the latch, data goes to the dword that it names."""
+        _fits(16, port)
+        _fits(32, width, value)
+        _value(self._do(_PORT_WRITE, port, width, value))
+
+    def port_read(self, port, width):
+        """A read of width bytes from a port; refusals 2, 3 and 4."""
+        _fits(16, port)
+        _fits(32, width)
+        return _value(self._do(_PORT_READ, port, width))
+
+    def claim_memory(self, address):
+        """The window that claims a memory address, with the offset inside, or None."""
+        _fits(64, address)
+        return _claim(self._do(_CLAIM_MEMORY, address & 0xFFFFFFFF, address >> 32))
+
+    def claim_port(self, port):
+        """The window that claims an I/O port, with the offset inside, or None."""
+        _fits(16, port)
+        return _claim(self._do(_CLAIM_PORT, port))
+
+    def image(self):
+        """The 256 bytes as a guest reads them."""
+        return b"".join(self.read(offset, 0xF).to_bytes(4, "little") for offset in range(0, 256, 4))
+
+    def walk(self, wanted):
+        """A capability walk over the function's own bytes as a guest reads them; refusals 10 and 11, with their count."""
+        _fits(8, wanted)
+        return _found(self._do(_WALK, wanted))
+
+
+def probe(low, high):
+    """The range that the low and high dword tell, read back after ones were written; refusal 8."""
+    _fits(32, low, high)
+    result = _lib.twin_probe(low, high)
+    _accepted(result >> 48)
+    return Range(Kind(result >> 32 & 0xFFFF), result & 0xFFFFFFFF)
+
+
+def walk(data, wanted):
+    """A capability walk over any bytes; refusals 1, 10 and 11, with their count."""
+    _fits(8, wanted)
+    data = bytes(data)
+    return _found(_lib.twin_walk(data, len(data), wanted))

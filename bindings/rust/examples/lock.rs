@@ -1,0 +1,20 @@
+//! A lock, and a function reset that does not undo it.
+
+use twin::{Refusal, Twin};
+
+fn main() -> Result<(), Refusal> {
+    let mut t = Twin::fresh();
+    t.write(0x2C, 0x3, 0x1234)?; // SVID2 is written, and closed
+    println!("locked: {:04X}", t.read(0x2C, 0x3)?);
+    t.write(0xA8, 0x1, 0x0001)?; // a function reset
+    t.write(0x2C, 0x3, 0xFFFF)?; // accepted, and changes nothing
+    println!(
+        "after a reset and another write: {:04X}",
+        t.read(0x2C, 0x3)?
+    );
+    match t.write(0x2D, 0x1, 0x00) {
+        Ok(()) => println!("an unaligned write was taken"),
+        Err(refusal) => println!("an unaligned write: {refusal}"),
+    }
+    Ok(())
+}

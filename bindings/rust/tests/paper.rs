@@ -1,0 +1,218 @@
+//! The paper's checked examples, its refusals, and the record's layout.
+
+use std::mem::{align_of, size_of};
+
+use twin::{probe, raw, walk, Claim, Kind, Range, Refusal, Twin, Walk};
+
+/// A fresh twin after some writes, all of them accepted.
+fn after(writes: &[(u32, u32, u32)]) -> Twin {
+    let mut t = Twin::fresh();
+    for (offset, lanes, value) in writes {
+        t.write(*offset, *lanes, *value).unwrap();
+    }
+    t
+}
+
+/// All bytes of a record, its padding too.
+#[repr(C, align(4))]
+#[derive(Clone, Copy, PartialEq, Eq, Debug)]
+struct Lent([u8; 264]);
+
+impl Lent {
+    fn record(&mut self) -> *mut Twin {
+        assert_eq!((size_of::<Lent>(), align_of::<Lent>()), (264, 4));
+        (self as *mut Lent).cast()
+    }
+}
+
+#[test]
+fn layout() {
+    let mut lent = Lent([0xA5; 264]);
+    let t = lent.record();
+    // SAFETY: a whole record, aligned, used here alone.
+    unsafe {
+        raw::twin_platform_reset(t);
+        raw::twin_do(t, 4, 0xCF8, 4, 0x80FEDCB8); // the latch
+        raw::twin_write(t, 0x2C, 0x8, 0xAB000000); // SID2
+        raw::twin_write(t, 0xFC, 0xF, 0x44332211); // ASLS
+    }
+    assert_eq!(lent.0[0x00..0x04], [0x86, 0x80, 0x52, 0x01]);
+    assert_eq!(lent.0[0x2C..0x30], [0, 0, 0, 0xAB]);
+    assert_eq!(lent.0[0xFC..0x100], [0x11, 0x22, 0x33, 0x44]);
+    assert_eq!(lent.0[256..260], [0xB8, 0xDC, 0xFE, 0x80]);
+    assert_eq!(lent.0[260..263], [0, 1, 0]);
+}
+
+#[test]
+fn reads_and_writes() {
+    let all = u32::MAX;
+    let rows: &[(&[(u32, u32, u32)], u32, u32, u32)] = &[
+        (&[], 0x00, 0xF, 0x01528086),
+        (&[(0x04, 0xF, all)], 0x04, 0xF, 0x00900407),
+        (&[(0x10, 0xF, all)], 0x10, 0xF, 0xFFC00004),
+        (&[(0x18, 0xF, all)], 0x18, 0xF, 0xF000000C),
+        (
+            &[(0x18, 0xF, all), (0x60, 0x4, 0x00060000)],
+            0x18,
+            0xF,
+            0xE000000C,
+        ),
+        (&[(0x60, 0x4, 0x00F40000)], 0x60, 0x4, 0x00F20000),
+        (&[(0x20, 0xF, all)], 0x20, 0xF, 0x0000FFC1),
+        (&[(0x7C, 0x8, 0x01000000)], 0x34, 0xF, 0x000000D0),
+        (&[(0xD4, 0x1, 1)], 0xD4, 0x1, 0),
+        (&[(0xD4, 0x1, 1), (0xD4, 0x1, 3)], 0xD4, 0x1, 3),
+        (&[(0xE8, 0x2, 0), (0xE8, 0xF, 0x8001)], 0xE8, 0xF, 1),
+        (
+            &[(0x2C, 0x3, 0x1234), (0xA8, 0x1, 1), (0x2C, 0x3, 0xFFFF)],
+            0x2C,
+            0x3,
+            0x1234,
+        ),
+    ];
+    for (writes, offset, lanes, value) in rows {
+        assert_eq!(
+            after(writes).read(*offset, *lanes),
+            Ok(*value),
+            "{writes:X?}"
+        );
+    }
+}
+
+#[test]
+fn the_session_example() {
+    let mut t = Twin::fresh();
+    assert_eq!(t.write(0x2C, 0x3, 0x00001234), Ok(()));
+    assert_eq!(t.write(0x2C, 0xF, 0xABCD5678), Ok(()));
+    assert_eq!(t.read(0x2C, 0xF), Ok(0xABCD1234));
+    assert_eq!(t.read(0x2D, 0xF), Err(Refusal::Offset));
+    assert_eq!(t.write(0x04, 0x1, 0x00000407), Ok(()));
+    assert_eq!(t.read(0x04, 0xF), Ok(0x00900007));
+    t.platform_reset();
+    assert_eq!(t, Twin::fresh());
+}
+
+#[test]
+fn ports() {
+    let mut t = Twin::fresh();
+    assert_eq!(t.port_write(0xCF8, 4, 0x80001000), Ok(()));
+    assert_eq!(t.port_read(0xCF8, 4), Ok(0x80001000));
+    assert_eq!(t.port_read(0xCFE, 2), Ok(0x0152));
+    assert_eq!(t.port_read(0xCFF, 2), Err(Refusal::NotOurs));
+    assert_eq!(t.port_read(0xCFC, 3), Err(Refusal::Width));
+    assert_eq!(t.port_write(0xCF8, 4, 0xFF000003), Ok(()));
+    assert_eq!(t.latch, 0x80000000);
+    assert_eq!(t.port_write(0xCFC, 1, 0), Err(Refusal::OtherFunction));
+}
+
+#[test]
+fn claims() {
+    let mut t = after(&[
+        (0x04, 0x1, 0x03),
+        (0x10, 0xF, 0x00400000),
+        (0x14, 0xF, 0x12),
+        (0x18, 0xF, 0xF0000000),
+        (0x1C, 0xF, 0xFFFFFFFF),
+        (0x20, 0xF, 0xE040),
+    ]);
+    assert_eq!(
+        t.claim_memory(0x12_007F_FFFF),
+        Some(Claim::Translation(0x3FFFFF))
+    );
+    assert_eq!(t.claim_memory(0x12_0080_0000), None);
+    assert_eq!(t.claim_memory(u64::MAX), Some(Claim::Aperture(0x0FFFFFFF)));
+    assert_eq!(t.claim_port(0xE07F), Some(Claim::Io(0x3F)));
+    assert_eq!(t.claim_port(0xE080), None);
+    t.write(0xD4, 0x1, 3).unwrap();
+    assert_eq!(t.claim_memory(u64::MAX), None);
+}
+
+#[test]
+fn probes() {
+    let range = |kind, exponent| Ok(Range { kind, exponent });
+    assert_eq!(probe(0xF000000C, 0xFFFFFFFF), range(Kind::Memory64, 28));
+    assert_eq!(probe(0x00000004, 0x00000100), range(Kind::Memory64, 40));
+    assert_eq!(probe(0xFFFFFFF0, 0), range(Kind::Memory32, 4));
+    assert_eq!(probe(0x0000FFC1, 0), range(Kind::Io, 6));
+    assert_eq!(probe(0xFFFFFFF6, 0xFFFFFFFF), Err(Refusal::NoRange));
+    assert_eq!(probe(0x0000000C, 0), Err(Refusal::NoRange));
+}
+
+#[test]
+fn walks() {
+    let mut t = Twin::fresh();
+    let ended = |found, count| Walk { found, count };
+    assert_eq!(t.walk(0x13), ended(Ok(Some(0xA4)), 3));
+    assert_eq!(t.walk(0x10), ended(Ok(None), 3));
+    t.write(0x7C, 0x8, 0x01000000).unwrap();
+    assert_eq!(t.walk(0x05), ended(Ok(None), 2));
+
+    let mut image = t.image();
+    assert_eq!((image[0x34], t.bytes[0x34]), (0xD0, 0x90));
+    assert_eq!(walk(&image, 0x13), ended(Ok(Some(0xA4)), 2));
+    image[0xA5] = 0x3F;
+    assert_eq!(walk(&image, 0x77), ended(Err(Refusal::Pointer), 2));
+    image[0xA5] = 0xD0;
+    assert_eq!(walk(&image, 0x77), ended(Err(Refusal::Endless), 48));
+    image[0x06] = 0;
+    assert_eq!(walk(&image, 0x13), ended(Ok(None), 0));
+    for length in [0, 1, 255] {
+        assert_eq!(walk(&image[..length], 0x13), ended(Err(Refusal::Length), 0));
+    }
+    assert_eq!(walk(&[0; 257], 0x13), ended(Err(Refusal::Length), 0));
+}
+
+#[test]
+fn refusals_leave_every_byte() {
+    let rows = [
+        (1, 0x01, 0xF, 0, 5),
+        (1, 0x100, 0x10, 0, 5),
+        (1, 0x2C, 0x10, 0, 6),
+        (2, 0x02, 0xF, 0, 5),
+        (2, 0x00, 0x10, 0, 6),
+        (3, 0x100, 0xFF, 0, 5),
+        (3, 0x2C, 0x01, 0, 7),
+        (3, 0x02, 0x100, 0, 9),
+        (3, 0x02, 0xFF, 0x100, 9),
+        (4, 0xCFC, 3, 0, 2),
+        (4, 0xCF8, 2, 0, 3),
+        (4, 0x10CF8, 4, 0, 9),
+        (5, 0xD00, 1, 0, 3),
+        (5, 0x10000, 4, 0, 9),
+        (7, 0x10000, 0, 0, 9),
+        (8, 2, 0, 0, 8),
+        (9, 0x100, 0, 0, 9),
+        (10, 0, 0, 0, 9),
+        (u32::MAX, 0, 0, 0, 9),
+    ];
+    let mut lent = Lent([0x5A; 264]); // a record of foreign making
+    let before = lent;
+    for (op, a, b, c, number) in rows {
+        // SAFETY: a whole record, aligned, used here alone.
+        let result = unsafe { raw::twin_do(lent.record(), op, a, b, c) };
+        assert_eq!(result, number << 48, "operation {op}");
+        assert_eq!(lent, before, "operation {op}");
+    }
+    for (offset, lanes, number) in [(0x2D, 0xF, 5), (0x2C, 0x10, 6)] {
+        // SAFETY: as above.
+        let (there, by_value) = unsafe {
+            (
+                raw::twin_write(lent.record(), offset, lanes, 0),
+                raw::twin_write_by_value(lent.record(), offset, lanes, 0),
+            )
+        };
+        assert_eq!((there, by_value), (number, number));
+        assert_eq!(lent, before);
+    }
+}
+
+#[test]
+fn refusal_numbers() {
+    assert_eq!(Refusal::of(0), None);
+    assert_eq!(Refusal::of(12), None);
+    for (number, refusal) in (1..).zip(Refusal::ALL) {
+        assert_eq!(refusal.number(), number);
+        assert_eq!(Refusal::of(number), Some(refusal));
+    }
+    assert_eq!(Refusal::NotOurs.to_string(), "refusal 3, NOT OURS");
+}

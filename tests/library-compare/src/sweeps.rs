@@ -1,0 +1,190 @@
+//! Calls in order, not made: every dword with every lanes, every bit by a host
+//! update, every port near the pair, every length of a walk, and so on.
+
+use crate::call::Call;
+use crate::lent::{Lent, SIZE};
+use crate::tally::Tally;
+use crate::{Difference, Library, Pair};
+
+/// Records to sweep over: fresh, all zeros, all ones, and two mixed ones.
+fn records(library: Library) -> Vec<Lent> {
+    let mut fresh = Lent::new([0x77; SIZE]);
+    library(&mut fresh, &mut Call::PlatformReset);
+    let mixed = |odd: u8| Lent::new(std::array::from_fn(|at| (at as u8).wrapping_mul(odd) ^ odd));
+    vec![
+        fresh,
+        Lent::new([0; SIZE]),
+        Lent::new([0xFF; SIZE]),
+        mixed(0x35),
+        mixed(0xA7),
+    ]
+}
+
+/// Each call on a record as it was.
+fn sweep(
+    library: Library,
+    name: &str,
+    record: &Lent,
+    calls: impl Iterator<Item = Call>,
+    tally: &mut Tally,
+) -> Result<(), Difference> {
+    for call in calls {
+        let mut pair = Pair::new(library, *record);
+        pair.step(&call, tally).map_err(|what| Difference {
+            place: format!("sweep of {name}"),
+            call,
+            what,
+        })?;
+    }
+    Ok(())
+}
+
+fn writes() -> impl Iterator<Item = Call> {
+    let values = [0, u32::MAX, 0x5555_5555, 0x0006_0003];
+    (0..64).flat_map(move |dword| {
+        (0..16).flat_map(move |lanes| {
+            values.into_iter().flat_map(move |value| {
+                let offset = dword * 4;
+                [
+                    Call::Write(offset, lanes, value),
+                    Call::WriteByValue(offset, lanes, value),
+                    Call::Do(1, offset, lanes, value),
+                ]
+            })
+        })
+    })
+}
+
+fn reads() -> impl Iterator<Item = Call> {
+    (0..64).flat_map(|dword| {
+        (0..16).flat_map(move |lanes| {
+            [
+                Call::Read(dword * 4, lanes),
+                Call::Do(2, dword * 4, lanes, 0),
+            ]
+        })
+    })
+}
+
+fn updates() -> impl Iterator<Item = Call> {
+    (0..256).flat_map(|at| {
+        (0..8).flat_map(move |place| [0, 0xFF].map(|value| Call::Do(3, at, 1 << place, value)))
+    })
+}
+
+/// Bad offsets with bad lanes, which tell the order of refusals.
+fn bad_accesses() -> impl Iterator<Item = Call> {
+    let offsets = [0, 1, 2, 3, 0xFC, 0xFF, 0x100, 0x104, 0x8000_0000, u32::MAX];
+    let lanes = [0, 15, 16, 17, 0x100, 0x8000_000F, u32::MAX];
+    offsets.into_iter().flat_map(move |offset| {
+        lanes.into_iter().flat_map(move |lanes| {
+            [
+                Call::Write(offset, lanes, u32::MAX),
+                Call::WriteByValue(offset, lanes, u32::MAX),
+                Call::Read(offset, lanes),
+                Call::Do(1, offset, lanes, u32::MAX),
+                Call::Do(2, offset, lanes, u32::MAX),
+            ]
+        })
+    })
+}
+
+fn doors() -> impl Iterator<Item = Call> {
+    let arguments = [0, 0xFF, 0x100, 0xFFFF, 0x1_0000, 0x1_0CF8, u32::MAX];
+    (0..=300)
+        .chain([0x8000_0000, u32::MAX])
+        .flat_map(move |op| {
+            arguments.into_iter().flat_map(move |a| {
+                arguments
+                    .into_iter()
+                    .map(move |b| Call::Do(op, a, b, a ^ b))
+            })
+        })
+}
+
+/// A latch, and an access to a port.
+fn ports() -> impl Iterator<Item = (u32, Call)> {
+    let latches = [
+        0x8000_1000,
+        0x8000_10FC,
+        0x8000_1100,
+        0x8000_0000,
+        0x8001_1000,
+        0x0000_1000,
+        0xFF00_1063,
+    ];
+    latches.into_iter().flat_map(|latch| {
+        (0xCF0..0xD08).flat_map(move |port| {
+            (0..=5).flat_map(move |width| {
+                [
+                    Call::Do(4, port, width, 0xA5C3_965A),
+                    Call::Do(5, port, width, 0),
+                ]
+                .map(|call| (latch, call))
+            })
+        })
+    })
+}
+
+fn probes() -> impl Iterator<Item = Call> {
+    (0..16).flat_map(|kind| {
+        (0..32).flat_map(move |place| {
+            [0, 1, 0x8000_0000, u32::MAX]
+                .into_iter()
+                .flat_map(move |high| {
+                    let (one, up) = (1 << place & !0xF | kind, u32::MAX << place & !0xF | kind);
+                    [
+                        Call::Probe(one, high),
+                        Call::Do(8, up, high, 0),
+                        Call::Do(8, kind, 1 << place, high),
+                    ]
+                })
+        })
+    })
+}
+
+/// Every length, and a list of as many items as there can be, of which the
+/// wanted one is each in turn.
+fn walks() -> impl Iterator<Item = Call> {
+    let lengths = (0..=520).map(|length| Call::Walk(vec![0x50; length], 0x50));
+    let mut chain = vec![0; 256];
+    chain[0x06] = 0x10;
+    chain[0x34] = 0x43; // low bits are dropped
+    for at in (0x40..0x100).step_by(4) {
+        chain[at] = at as u8;
+        chain[at + 1] = (at + 4) as u8; // the last is 0
+    }
+    let mut round = chain.clone();
+    round[0xFD] = 0x40;
+    let whole = chain.clone();
+    lengths
+        .chain((0..=255).map(move |wanted| Call::Walk(whole.clone(), wanted)))
+        .chain((0..=255).map(move |wanted| Call::Walk(round.clone(), wanted)))
+        .chain((0..=255).map(move |pointer| {
+            let mut bytes = chain.clone();
+            bytes[0xFD] = pointer;
+            Call::Walk(bytes, 0x01)
+        }))
+}
+
+/// Every sweep.
+pub fn all(library: Library, tally: &mut Tally) -> Result<(), Difference> {
+    let records = records(library);
+    for record in &records {
+        sweep(library, "writes", record, writes(), tally)?;
+        sweep(library, "reads", record, reads(), tally)?;
+        sweep(library, "host updates", record, updates(), tally)?;
+        sweep(library, "bad accesses", record, bad_accesses(), tally)?;
+        for (latch, call) in ports() {
+            let mut record = *record;
+            for (at, byte) in (256..).zip(latch.to_le_bytes()) {
+                *record.byte(at) = byte;
+            }
+            sweep(library, "ports", &record, std::iter::once(call), tally)?;
+        }
+    }
+    let mixed = &records[3];
+    sweep(library, "the door", mixed, doors(), tally)?;
+    sweep(library, "probes", mixed, probes(), tally)?;
+    sweep(library, "walks", mixed, walks(), tally)
+}
