@@ -26,6 +26,17 @@ impl Lent {
 }
 
 #[test]
+fn places() {
+    let t = Twin::fresh();
+    let from = |field: *const u8| field as usize - &t as *const Twin as usize;
+    assert_eq!(from(t.bytes.as_ptr()), 0);
+    assert_eq!(from(&t.latch as *const u32 as *const u8), 256);
+    assert_eq!(from(&t.closed.svid2), 260);
+    assert_eq!(from(&t.closed.sid2), 261);
+    assert_eq!(from(&t.closed.swsci15), 262);
+}
+
+#[test]
 fn layout() {
     let mut lent = Lent([0xA5; 264]);
     let t = lent.record();
