@@ -7,7 +7,7 @@ use native.Mathlib.Decide.{ℕ-discrete}
 use borrow.Author.Tests.{eq-eqb, ne-eqb}
 use lib.ListN.{length, take}
 use lib.Seq.{take-take}
-use Rattle.play.specs.Session.{runOf, linesOf, restOf, lastOf, allLines, joins, Played, follow, answers, playText, lastText, blocksText}
+use Rattle.play.specs.Session.{runOf, linesOf, restOf, lastOf, allLines, joins, Played, follow, answers, playText, lastText, blocksText, after, lastState, blocksState}
 use Rattle.play.proofs.Text.{no-line, in-two}
 
 -- ---- lists
@@ -55,6 +55,17 @@ module _ {S : Type 0} (next : S → List ℕ → S) (say : S → List ℕ → Li
         | no ne ↦ rw (ne-eqb x 10 ne) (lines-answered xs s (l ++ (x ∷ [])))
       ]
 
+  -- and the state is the one after the lines
+  pub lines-played : (xs : List ℕ) (s : S) (l : List ℕ) → after next say s (linesOf l xs ++ lastOf (restOf l xs)) ≡ lastState next say (play s l xs .state) (play s l xs .rest)
+  unfolding linesOf restOf after playText
+  lines-played [] s [] = refl
+  lines-played [] s (y ∷ l) = refl
+  lines-played (x ∷ xs) s l =
+      elim (ℕ-discrete x 10) [
+        | yes e ↦ rw (eq-eqb x 10 e) (lines-played xs (next s l) [])
+        | no ne ↦ rw (ne-eqb x 10 ne) (lines-played xs s (l ++ (x ∷ [])))
+      ]
+
   -- an unfinished line may stand before the next block, as it does in the buffer
   carried : (l ys : List ℕ) (s : S) → Clean l → play s [] (l ++ ys) ≡ play s l ys
   carried l ys s h = in-two next say l ys s [] ∙ rw (no-line next say l s [] h)
@@ -92,11 +103,11 @@ module _ {S : Type 0} (next : S → List ℕ → S) (say : S → List ℕ → Li
     take-none zero = refl
     take-none (suc n) = refl
 
-    last-alike : (s : S) (l k : List ℕ) → take most l ≡ take most k → lastText next say s l ≡ lastText next say s k
-    last-alike s [] [] e = refl
+    last-alike : (s : S) (l k : List ℕ) → take most l ≡ take most k → (lastState next say s l ≡ lastState next say s k) × (lastText next say s l ≡ lastText next say s k)
+    last-alike s [] [] e = (refl, refl)
     last-alike s [] (y ∷ k) e = absurd (both-empty most y k some (sym (take-none most) ∙ e))
     last-alike s (x ∷ l) [] e = absurd (both-empty most x l some (sym (e ∙ take-none most)))
-    last-alike s (x ∷ l) (y ∷ k) e = cut-say s (x ∷ l) (y ∷ k) e
+    last-alike s (x ∷ l) (y ∷ k) e = (cut-next s (x ∷ l) (y ∷ k) e, cut-say s (x ∷ l) (y ∷ k) e)
 
     -- what a text comes to in the end, its last line included
     abbrev ended : Played S → List ℕ
@@ -105,15 +116,28 @@ module _ {S : Type 0} (next : S → List ℕ → S) (say : S → List ℕ → Li
     follow-ended : (t : List ℕ) (p : Played S) → t ++ ended p ≡ ended (follow t p)
     follow-ended t p = sym (append-assoc t (p .text) (lastText next say (p .state) (p .rest)))
 
-    whole : (xs : List (List ℕ)) (s : S) (l k : List ℕ) → take most l ≡ take most k → Clean k → blocksText next say most s k xs ≡ ended (play s l (joins xs))
-    unfolding blocksText playText
-    whole [] s l k e h = sym (last-alike s l k e)
-    whole (x ∷ xs) s l k e h =
+    -- what is kept of the unfinished line serves for the next block
+    next-block : (x : List ℕ) (s : S) (l k : List ℕ) → take most l ≡ take most k → Clean k → Alike (play s l x) (play s [] (k ++ x)) × (take most (play s l x .rest) ≡ take most (take most (play s [] (k ++ x) .rest))) × Clean (take most (play s [] (k ++ x) .rest))
+    next-block x s l k e h =
         let a = cut x s l k e in
-        rw (carried k x s h, in-two next say x (joins xs) s l, a .0, a .1)
-        (ap {B = List ℕ} (λ (t : List ℕ). play s k x .text ++ t) (whole xs (play s k x .state) (play s l x .rest) (take most (play s k x .rest)) (a .2 ∙ sym (take-take most most (play s k x .rest) (omega arith))) (clean-take most (play s k x .rest) (clean-rest x s k h)))
-        ∙ follow-ended (play s k x .text) (play (play s k x .state) (play s l x .rest) (joins xs)))
+        rw (carried k x s h) (a, a .2 ∙ sym (take-take most most (play s k x .rest) (omega arith)), clean-take most (play s k x .rest) (clean-rest x s k h))
+
+    whole : (xs : List (List ℕ)) (s : S) (l k : List ℕ) → take most l ≡ take most k → Clean k → (blocksState next say most s k xs ≡ lastState next say (play s l (joins xs) .state) (play s l (joins xs) .rest)) × (blocksText next say most s k xs ≡ ended (play s l (joins xs)))
+    unfolding blocksText blocksState playText
+    whole [] s l k e h = let z = last-alike s l k e in (sym (z .0), sym (z .1))
+    whole (x ∷ xs) s l k e h =
+        let b = next-block x s l k e h in
+        let a = b .0 in
+        let w = whole xs (play s [] (k ++ x) .state) (play s l x .rest) (take most (play s [] (k ++ x) .rest)) (b .1) (b .2) in
+        rw (in-two next say x (joins xs) s l, a .0, a .1) (
+          w .0,
+          ap {B = List ℕ} (λ (t : List ℕ). play s [] (k ++ x) .text ++ t) (w .1) ∙ follow-ended (play s [] (k ++ x) .text) (play (play s [] (k ++ x) .state) (play s l x .rest) (joins xs)),
+        )
 
     -- whatever the blocks, the answers are those of the lines of the whole input
     pub in-blocks : (xs : List (List ℕ)) (s : S) → blocksText next say most s [] xs ≡ answers next say s (allLines (joins xs))
-    in-blocks xs s = whole xs s [] [] refl (omega arith) ∙ sym (lines-answered (joins xs) s [])
+    in-blocks xs s = whole xs s [] [] refl (omega arith) .1 ∙ sym (lines-answered (joins xs) s [])
+
+    -- and the state is the one after them
+    pub after-blocks : (xs : List (List ℕ)) (s : S) → blocksState next say most s [] xs ≡ after next say s (allLines (joins xs))
+    after-blocks xs s = whole xs s [] [] refl (omega arith) .0 ∙ sym (lines-played (joins xs) s [])

@@ -70,3 +70,20 @@ module _ {S : Type 0} (next : S → List ℕ → S) (say : S → List ℕ → Li
   unfoldable pub blocksText : ℕ → S → List ℕ → List (List ℕ) → List ℕ
   blocksText most s k [] = lastText s k
   blocksText most s k (x ∷ xs) = playText s [] (k ++ x) .text ++ blocksText most (playText s [] (k ++ x) .state) (take most (playText s [] (k ++ x) .rest)) xs
+
+  -- ---- the state afterwards
+
+  -- after each line in turn
+  unfoldable pub after : S → List (List ℕ) → S
+  after s [] = s
+  after s (l ∷ ls) = after (next s l) ls
+
+  -- the line that lacks its LF
+  abbrev pub lastState : S → List ℕ → S
+  lastState s [] = s
+  lastState s (x ∷ xs) = next s (x ∷ xs)
+
+  -- after an input that comes in blocks, kept as above
+  unfoldable pub blocksState : ℕ → S → List ℕ → List (List ℕ) → S
+  blocksState most s k [] = lastState s k
+  blocksState most s k (x ∷ xs) = blocksState most (playText s [] (k ++ x) .state) (take most (playText s [] (k ++ x) .rest)) xs

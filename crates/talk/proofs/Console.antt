@@ -1,13 +1,25 @@
--- Whatever the blocks that an input comes in, the console's answers are those that the rules give to its lines.
+-- Whatever the blocks that an input comes in, the console's answers are those that the rules give to its lines, and the state is the one after them.
 use mathlib.Core.Path.{_≡_, ap}
 use mathlib.Core.List.{List, []}
 use Prim.Native.Nat.{ℕ}
 use native.Mathlib.Omega.{arith}
+use lib.ListN.{take}
+use Rattle.rules.specs.declared.State.{State}
 use Rattle.rules.specs.Fresh.{freshOf}
 use Rattle.calls.proofs.Long.{begin-alike}
-use Rattle.play.specs.Session.{joins, blocksText}
-use Rattle.play.proofs.Blocks.{in-blocks}
+use Rattle.play.specs.Session.{joins, allLines, blocksText, after, blocksState}
+use Rattle.play.proofs.Blocks.{in-blocks, after-blocks}
 use Rattle.talk.specs.Console.{callNext, callSay, lineNext, lineSay, consoleOf}
 
+-- the first 20 bytes of a line say all
+next-alike : (s : State) (l k : List ℕ) → take 20 l ≡ take 20 k → lineNext s l ≡ lineNext s k
+next-alike s l k e = ap (callNext s) (begin-alike l k e)
+
+say-alike : (s : State) (l k : List ℕ) → take 20 l ≡ take 20 k → lineSay s l ≡ lineSay s k
+say-alike s l k e = ap (callSay s) (begin-alike l k e)
+
 pub console-is : (xs : List (List ℕ)) → blocksText lineNext lineSay 20 freshOf [] xs ≡ consoleOf (joins xs)
-console-is xs = in-blocks lineNext lineSay 20 (omega arith) (λ s l k e. ap (callNext s) (begin-alike l k e)) (λ s l k e. ap (callSay s) (begin-alike l k e)) xs freshOf
+console-is xs = in-blocks lineNext lineSay 20 (omega arith) next-alike say-alike xs freshOf
+
+pub console-after : (xs : List (List ℕ)) → blocksState lineNext lineSay 20 freshOf [] xs ≡ after lineNext lineSay freshOf (allLines (joins xs))
+console-after xs = after-blocks lineNext lineSay 20 (omega arith) next-alike say-alike xs freshOf
