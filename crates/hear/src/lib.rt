@@ -2,7 +2,8 @@
 use rules::State;
 ghost use mathlib.Core.Path.{_≡_};
 ghost use Prim.Native.Nat.{_≤_};
-ghost use lib.ListN.{length};
+ghost use lib.ListN.{length, take};
+ghost use Rattle.hear.specs.Turn.{Turned};
 
 // The answers are the first `filled` bytes of the buffer for them; `on` says that more may come.
 pub struct Heard {
@@ -30,6 +31,7 @@ pub fn out_buffer() -> [u8; 98784]
 fn last(s: State, buf: &[u8], k: usize, out: &mut [u8]) -> Heard
     requires { ⌜ (k ≤ length (now buf)) × (length (now out) ≡ 98784) ⌝ }
     ensures { λ r. ⌜ (r .kept ≤ 20) × (r .filled ≤ 98784) × (length (now (out .exit)) ≡ 98784) ⌝ }
+    ensures { λ r. ⌜ Turned (r .on) s (take k (now (buf .entry))) (r .state) (take (r .filled) (now (out .exit))) (take (r .kept) (now (buf .entry))) ⌝ }
 {
     if k == 0 {
         return Heard {
@@ -54,6 +56,7 @@ fn last(s: State, buf: &[u8], k: usize, out: &mut [u8]) -> Heard
 pub fn turn(s: State, buf: &mut [u8], k: usize, out: &mut [u8]) -> Heard
     requires { ⌜ (k ≤ 20) × (length (now buf) ≡ 4116) × (length (now out) ≡ 98784) ⌝ }
     ensures { λ r. ⌜ (r .kept ≤ 20) × (r .filled ≤ 98784) × (length (now (buf .exit)) ≡ 4116) × (length (now (out .exit)) ≡ 98784) ⌝ }
+    ensures { λ r. ⌜ Turned (r .on) s (take k (now (buf .entry))) (r .state) (take (r .filled) (now (out .exit))) (take (r .kept) (now (buf .exit))) ⌝ }
 {
     let n = input::fill(buf, k);
     if n == 0 {

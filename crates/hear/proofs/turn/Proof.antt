@@ -1,8 +1,10 @@
--- One read and its lines, within the buffers.
+-- One read and its lines: a turn.
 use mathlib.Core.Path.{sym}
-use Prim.Native.Nat.{_+_}
+use Prim.Native.Nat.{_+_, _≤_}
 use native.Mathlib.Omega.{arith}
+use lib.ListN.{take}
 use lib.Seq.{length-take-le}
+use Rattle.hear.proofs.Steps.{one-turn}
 use borrow.Author.Needs.{needs}
 use Rattle.hear.proofs.turn.Statement.{statement}
 use Rattle.hear.proofs.turn.Tie as tie
@@ -20,7 +22,9 @@ same-length-2 : tie.Need-same-length-2
 same-length-2 c = search needs
 
 returns : tie.Need-returns
-returns c = search needs
+returns c =
+    let f = c .before .before .before .before .before .before .before .before .fill in
+    (search needs, rw (f .ensures .2) at (c .before .before .last .ensures .1))
 
 add-end : tie.Need-add-end
 add-end c = search needs
@@ -48,7 +52,14 @@ same-length-4 : tie.Need-same-length-4
 same-length-4 c = search needs
 
 returns-2 : tie.Need-returns-2
-returns-2 c = search needs
+returns-2 c =
+    let k = c .before .before .before .keep in
+    let t = c .before .before .before .before .before .before .before .talk in
+    let f = c .before .before .before .before .before .before .before .before .before .before .before .before .before .fill in
+    let a = c .before .before .before .before .before .before .before .before .before .before .before .before .before .before .before .before .before .args in
+    let inside : t .result .at ≤ a .k + f .result = omega (arith, t .ensures .1 .0 .0, length-take-le (a .k + f .result) (f .last .0) (omega arith)) in
+    let p = c .before .before .before .before .before .before .before .before .before .before .before .before .before .before .before .before .before .pre in
+    ((k .ensures .0, omega (arith, t .ensures .1 .0 .1, t .ensures .1 .1, p .2), omega (arith, k .ensures .1, f .ensures .1, p .1), omega (arith, t .ensures .1 .1, p .2)), one-turn (a .s) (t .result .state) (a .buf .now) (f .last .0) (k .last .0) (take (t .result .filled) (t .last .1 .1 .0)) (a .k) (f .result) (t .result .at) (k .result) (f .ensures .2) (f .ensures .0) (t .ensures .0) inside (k .ensures .2) (k .ensures .3))
 
 pub turn-spec : {M : Type 1} → statement M
 turn-spec =
