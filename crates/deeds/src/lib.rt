@@ -9,12 +9,11 @@ ghost use Rattle.rules.specs.Guest.{writeOf};
 ghost use Rattle.rules.specs.Read.{readOf};
 ghost use Rattle.probe.specs.Probe.{probeOf};
 ghost use Rattle.writes.specs.Bytes.{lent, writeLanes};
-ghost use Rattle.tells.specs.Told.{heard, leaves, said, probeReply};
+ghost use Rattle.tells.specs.Told.{heard, leaves, probeReply};
 ghost use Rattle.deeds.specs.Door.{did, hostDeed, portWriteDeed, portReadDeed, memoryDeed, portDeed, walkDeed, doorOf};
 use rules::Closed;
 use rules::State;
 use rules::WriteAnswer;
-use rules::Written;
 use tells::Told;
 
 pub struct Deed {
@@ -155,7 +154,7 @@ fn do_walk(s: State, a: u32) -> Deed
 }
 
 // The operation of that number; any other number is a line of no form.
-pub fn perform(s: State, op: u32, a: u32, b: u32, c: u32) -> Deed
+fn perform(s: State, op: u32, a: u32, b: u32, c: u32) -> Deed
     ensures { λ r. ⌜ did r ≡ doorOf s op a b c ⌝ }
 {
     if op == 0 {
@@ -191,15 +190,25 @@ pub fn perform(s: State, op: u32, a: u32, b: u32, c: u32) -> Deed
     bad(s)
 }
 
-// What is told of a deed.
-pub fn pack(d: Deed) -> u64
-    ensures { λ r. ⌜ heard r ≡ said (d .told) ⌝ }
-{
-    let t = d.told;
-    tells::packed(t)
+// What is told in one number, and the state afterwards.
+pub struct Operated {
+    pub heard: u64,
+    pub state: State,
 }
 
-// ---- a guest write for the lent record: the number alone crosses
+pub fn operate(s: State, op: u32, a: u32, b: u32, c: u32) -> Operated
+    ensures { λ r. ⌜ leaves (heard (r .heard)) (r .state) ≡ doorOf s op a b c ⌝ }
+{
+    let d = perform(s, op, a, b, c);
+    let t = d.told;
+    let after = d.state;
+    Operated {
+        heard: tells::packed(t),
+        state: after,
+    }
+}
+
+// ---- a guest write for the lent record
 
 fn number(a: WriteAnswer) -> u32
     ensures { λ r. ⌜ no r ≡ writeSays a ⌝ }
@@ -211,11 +220,22 @@ fn number(a: WriteAnswer) -> u32
     }
 }
 
-pub fn write_number(w: Written) -> u32
-    ensures { λ r. ⌜ no r ≡ writeSays (w .answer) ⌝ }
+// The refusal's number, or 0, and the state afterwards.
+pub struct Numbered {
+    pub number: u32,
+    pub state: State,
+}
+
+pub fn write(s: State, offset: u32, lanes: u32, value: u32) -> Numbered
+    ensures { λ r. ⌜ leaves (no (r .number)) (r .state) ≡ writeOf s offset lanes value ⌝ }
 {
+    let w = twin::write(s, offset, lanes, value);
     let a = w.answer;
-    number(a)
+    let after = w.state;
+    Numbered {
+        number: number(a),
+        state: after,
+    }
 }
 
 pub struct Stored {

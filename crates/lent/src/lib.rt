@@ -35,9 +35,9 @@ pub extern "C" fn twin_write(s: &mut State, offset: u32, lanes: u32, value: u32)
 pub extern "C" fn twin_write_by_value(s: &mut State, offset: u32, lanes: u32, value: u32) -> u32
     ensures { λ r. ⌜ leaves (no r) (now (s .exit)) ≡ writeOf (now (s .entry)) offset lanes value ⌝ }
 {
-    let w = twin::write(*s, offset, lanes, value);
+    let w = deeds::write(*s, offset, lanes, value);
     *s = w.state;
-    deeds::write_number(w)
+    w.number
 }
 
 // A guest read.
@@ -53,9 +53,9 @@ pub extern "C" fn twin_read(s: &State, offset: u32, lanes: u32) -> u64
 pub extern "C" fn twin_do(s: &mut State, op: u32, a: u32, b: u32, c: u32) -> u64
     ensures { λ r. ⌜ leaves (heard r) (now (s .exit)) ≡ doorOf (now (s .entry)) op a b c ⌝ }
 {
-    let d = deeds::perform(*s, op, a, b, c);
+    let d = deeds::operate(*s, op, a, b, c);
     *s = d.state;
-    deeds::pack(d)
+    d.heard
 }
 
 // A size probe.
