@@ -49,77 +49,32 @@ static void make_accesses(void)
 static struct plain plain;
 static twin_state lent;
 
-static uint64_t plain_writes(long calls)
+// number in bits 63:48, value in bits 31:0, as the library tells it
+static uint64_t plain_heard(const struct access *a)
 {
-    uint64_t sum = 0;
-    for (long i = 0; i < calls; i++) {
-        const struct access *a = &accesses[i % ACCESSES];
-        sum += (uint64_t)plain_write(&plain, a->offset, a->lanes, a->value);
-    }
-    return sum;
+    uint32_t value = 0;
+    uint64_t number = (uint64_t)plain_read(&plain, a->offset, a->lanes, &value);
+    return number << 48 | value;
 }
 
-static uint64_t plain_reads(long calls)
-{
-    uint64_t sum = 0;
-    for (long i = 0; i < calls; i++) {
-        const struct access *a = &accesses[i % ACCESSES];
-        uint32_t value = 0;
-        sum += (uint64_t)plain_read(&plain, a->offset, a->lanes, &value) << 48;
-        sum += value;
+#define ENTRY(name, hears)                                       \
+    static uint64_t name(long calls)                             \
+    {                                                            \
+        uint64_t sum = 0;                                        \
+        for (long i = 0; i < calls; i++) {                       \
+            const struct access *a = &accesses[i % ACCESSES];    \
+            sum += (hears);                                      \
+        }                                                        \
+        return sum;                                              \
     }
-    return sum;
-}
 
-static uint64_t lent_writes(long calls)
-{
-    uint64_t sum = 0;
-    for (long i = 0; i < calls; i++) {
-        const struct access *a = &accesses[i % ACCESSES];
-        sum += twin_write(&lent, a->offset, a->lanes, a->value);
-    }
-    return sum;
-}
-
-static uint64_t value_writes(long calls)
-{
-    uint64_t sum = 0;
-    for (long i = 0; i < calls; i++) {
-        const struct access *a = &accesses[i % ACCESSES];
-        sum += twin_write_by_value(&lent, a->offset, a->lanes, a->value);
-    }
-    return sum;
-}
-
-static uint64_t door_writes(long calls)
-{
-    uint64_t sum = 0;
-    for (long i = 0; i < calls; i++) {
-        const struct access *a = &accesses[i % ACCESSES];
-        sum += twin_do(&lent, 1, a->offset, a->lanes, a->value) >> 48;
-    }
-    return sum;
-}
-
-static uint64_t lent_reads(long calls)
-{
-    uint64_t sum = 0;
-    for (long i = 0; i < calls; i++) {
-        const struct access *a = &accesses[i % ACCESSES];
-        sum += twin_read(&lent, a->offset, a->lanes);
-    }
-    return sum;
-}
-
-static uint64_t door_reads(long calls)
-{
-    uint64_t sum = 0;
-    for (long i = 0; i < calls; i++) {
-        const struct access *a = &accesses[i % ACCESSES];
-        sum += twin_do(&lent, 2, a->offset, a->lanes, 0);
-    }
-    return sum;
-}
+ENTRY(plain_writes, (uint64_t)plain_write(&plain, a->offset, a->lanes, a->value))
+ENTRY(plain_reads, plain_heard(a))
+ENTRY(lent_writes, twin_write(&lent, a->offset, a->lanes, a->value))
+ENTRY(value_writes, twin_write_by_value(&lent, a->offset, a->lanes, a->value))
+ENTRY(door_writes, twin_do(&lent, TWIN_DO_WRITE, a->offset, a->lanes, a->value) >> 48)
+ENTRY(lent_reads, twin_read(&lent, a->offset, a->lanes))
+ENTRY(door_reads, twin_do(&lent, TWIN_DO_READ, a->offset, a->lanes, 0))
 
 struct entry {
     const char *name;
