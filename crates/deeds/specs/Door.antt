@@ -41,7 +41,7 @@ portDeed s a = upTo 65535 a s (leaves (claimReply (ioClaimOf s a)) s)
 unfoldable pub walkDeed : State → ℕ → Outcome
 walkDeed s a = upTo 255 a s (leaves (walkReply (walkOf (imageOf s) a)) s)
 
--- an operation's number and three arguments; those that it has no use for have no say
+-- an operation's number and three arguments; those that it has no use for have no say. 0 is a platform reset, 1 a guest write, 2 a guest read, 3 a host update, 4 a port write, 5 a port read, 6 and 7 the claim of a memory address and of a port, 8 a size probe, 9 a capability walk
 unfoldable pub doorOf : State → ℕ → ℕ → ℕ → ℕ → Outcome
 doorOf s op a b c =
     if op is 0 then done freshOf

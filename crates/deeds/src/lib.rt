@@ -153,7 +153,7 @@ fn do_walk(s: State, a: u32) -> Deed
     }
 }
 
-// The operation of that number; any other number is a line of no form.
+// The operation of that number, as specs/Door.antt names them; any other number is a line of no form.
 fn perform(s: State, op: u32, a: u32, b: u32, c: u32) -> Deed
     ensures { λ r. ⌜ did r ≡ doorOf s op a b c ⌝ }
 {
