@@ -1,15 +1,16 @@
 -- Numbers and their bits, over any width: a blend is what and, or and xor make of it, its bit i is picked by the mask's; a number is what its bits make.
-use mathlib.Core.Path.{_≡_, refl, sym, ap, _∙_}
+use mathlib.Core.Path.{_≡_, refl, sym, ap, subst, _∙_}
 use Prim.Native.Nat.{ℕ, zero, suc, _+_, _-_, _*_, _/_, _%_, _^_, _<_, _≤_, min, max}
 use native.Mathlib.Omega.{arith}
 use native.Mathlib.Nat.{two-pow-succ, div-one, mod-one, zero-div, zero-add, suc-add, mul-add}
 use native.Mathlib.Numerals.{one-add, add-one}
 use lib.Pow.{pow-pos, shr-shr, mod-pow-add}
 use lib.Bits.{bitAnd, bitOr, bitXor, differ, and-step, or-step, xor-step, and-shr, xor-shr}
-use mathlib.Core.Bool.{Bool, true, false}
-use lib.Dec.{eqb, ltb}
-use borrow.Author.Tests.{lt-ltb, le-ltb, ltb-true, ltb-false}
-use Rattle.bits.specs.Choice.{pick}
+use mathlib.Core.Bool.{Bool, true, false, not}
+use lib.Dec.{T, eqb, ltb}
+use borrow.Author.Tests.{eq-eqb, eqb-true, lt-ltb, le-ltb, ltb-true, ltb-false}
+use Rattle.bits.specs.Choice.{pick, anyBelow}
+use Rattle.bits.proofs.Below.{any-none, none-any, pick-has}
 use Rattle.bits.specs.Bits.{bit, numberOf, little, joined, pickBit, blendK}
 
 -- one bit of each: the operators are the pick
@@ -165,6 +166,10 @@ bit<2 x j = omega arith
 pub blend-number : (k m o n : ℕ) → blendK k m o n ≡ numberOf k (λ (j : ℕ). pickBit (bit m j) (bit o j) (bit n j))
 blend-number k m o n = sym (number-bits k (blendK k m o n) (blend< k m o n)) ∙ number-ext k (bit (blendK k m o n)) (λ (j : ℕ). pickBit (bit m j) (bit o j) (bit n j)) (λ j h. blend-bit k m o n j h)
 
+-- a blend is a choice for each bit by the mask's
+pub blend-each : (k m o n : ℕ) → blendK k m o n ≡ numberOf k (λ (j : ℕ). pick (eqb (bit m j) 1) (bit n j) (bit o j))
+blend-each k m o n = blend-number k m o n ∙ number-ext k (λ (j : ℕ). pickBit (bit m j) (bit o j) (bit n j)) (λ (j : ℕ). pick (eqb (bit m j) 1) (bit n j) (bit o j)) (λ j h. pick-bit (bit m j) (bit o j) (bit n j) (bit<2 m j))
+
 -- a number whose n lowest bits are 0 is a multiple of 2 ^ n
 pub low-zero : (n k : ℕ) (f : ℕ → ℕ) → n ≤ k → ((j : ℕ) → j < n → f j ≡ 0) → (q : ℕ) × (numberOf k f ≡ q * 2 ^ n)
 unfolding numberOf
@@ -178,6 +183,30 @@ low-zero (suc n) (suc k) f h z =
 
 pub bit-zero : (j : ℕ) → bit 0 j ≡ 0
 bit-zero j = rw (zero-div (2 ^ j))
+
+-- a number is not 0 exactly if one of its bits is 1
+pub some-bit : (k : ℕ) (f : ℕ → ℕ) → ((j : ℕ) → f j < 2) → not (eqb (numberOf k f) 0) ≡ anyBelow k (λ (j : ℕ). eqb (f j) 1)
+some-bit k f b = go (eqb (numberOf k f) 0) (anyBelow k (λ (j : ℕ). eqb (f j) 1)) refl refl
+  where
+    off : (x : ℕ) → x < 2 → eqb x 1 ≡ false → x ≡ 0
+    off zero h e = refl
+    off (suc zero) h e = absurd (subst T e tt)
+    off (suc (suc x)) h e = omega arith
+
+    none : numberOf k f ≡ 0 → anyBelow k (λ (j : ℕ). eqb (f j) 1) ≡ false
+    none e = none-any k (λ (j : ℕ). eqb (f j) 1) (λ j h. let z : f j ≡ 0 = sym (bit-number k f b j h) ∙ ap (λ (x : ℕ). bit x j) e ∙ bit-zero j in rw z)
+
+    zeros : anyBelow k (λ (j : ℕ). eqb (f j) 1) ≡ false → numberOf k f ≡ 0
+    zeros e = number-ext k f (λ (j : ℕ). 0) (λ j h. off (f j) (b j) (any-none k (λ (j : ℕ). eqb (f j) 1) e j h)) ∙ number-none k
+
+    go : (x y : Bool) → eqb (numberOf k f) 0 ≡ x → anyBelow k (λ (j : ℕ). eqb (f j) 1) ≡ y → not x ≡ y
+    go true y p q = sym (none (eqb-true _ _ p)) ∙ q
+    go false true p q = refl
+    go false false p q = sym (eq-eqb _ _ (zeros q)) ∙ p
+
+-- a blend is not 0 exactly if one of the bits that it picks is 1
+pub some-blended : (k m o n : ℕ) → not (eqb (blendK k m o n) 0) ≡ anyBelow k (λ (j : ℕ). eqb (pick (eqb (bit m j) 1) (bit n j) (bit o j)) 1)
+some-blended k m o n = rw (blend-each k m o n) (some-bit k (λ (j : ℕ). pick (eqb (bit m j) 1) (bit n j) (bit o j)) (λ j. pick-has (λ (x : ℕ). x < 2) (eqb (bit m j) 1) (bit n j) (bit o j) (bit<2 n j) (bit<2 o j)))
 
 -- the lower a bits and the upper b
 pub number-split : (a b : ℕ) (f : ℕ → ℕ) → numberOf (a + b) f ≡ numberOf a f + numberOf b (λ (j : ℕ). f (a + j)) * 2 ^ a

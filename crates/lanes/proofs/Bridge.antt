@@ -1,17 +1,19 @@
--- A byte lane as the code makes it comes to the rule, bit by bit.
-use mathlib.Core.Path.{_≡_, refl, sym, ap, _∙_}
+-- The guest bits that a write reaches, as the code finds them, are those that take what is written by the rules.
+use mathlib.Core.Path.{_≡_, refl, ap, _∙_}
+use lib.Dec.{eqb}
 use mathlib.Core.Bool.{Bool, true, false, not}
 use Prim.Native.Nat.{ℕ, _<_}
-use Rattle.bits.specs.Bits.{bit, byteOf, pickBit, blendK}
+use Rattle.bits.specs.Bits.{bit, blendK}
 use Rattle.bits.specs.Choice.{pick, both, mark}
-use Rattle.bits.proofs.Laws.{number-ext, bit-zero, blend-number}
+use Rattle.bits.proofs.Laws.{number-ext, bit-zero}
+use Rattle.bits.proofs.Below.{mark-is}
 use Rattle.map.specs.Class.{Class, readOnly, host, guest, guestF, once, sizeCode, aperture, power, computed, resetStart, stores}
 use Rattle.map.specs.Map.{classOf, maskAt, guestAt}
 use Rattle.map.proofs.Classes.{mask-bit, guest-mask}
 use Rattle.map.proofs.Blends.{blend-by}
 use Rattle.rules.specs.declared.Closed.{Closed}
-use Rattle.rules.specs.Guest.{takes, store}
-use Rattle.lanes.specs.Lane.{leaves, heldOf}
+use Rattle.rules.specs.Guest.{takes}
+use Rattle.lanes.specs.Lane.{leaves, heldOf, reachOf}
 
 -- ---- the guest mask without the held bits is the mask of the bits that take what is written
 
@@ -32,15 +34,11 @@ takes-bit c code w power = open-bit (takes c code w power)
 takes-bit c code w computed = refl
 takes-bit c code w resetStart = refl
 
-pub open-mask : (c : Closed) (code w i : ℕ) → i < 256 → blendK 8 (heldOf c code w i) (guestAt i) 0 ≡ maskAt (takes c code w) i
-unfolding heldOf
-open-mask c code w i h =
+reach-mask : (c : Closed) (code w i : ℕ) → i < 256 → reachOf c code i (guestAt i) w ≡ maskAt (takes c code w) i
+unfolding reachOf heldOf
+reach-mask c code w i h =
     ap (λ (g : ℕ). blendK 8 (maskAt (leaves c code w) i) g 0) (guest-mask i h) ∙ blend-by (leaves c code w) i (maskAt stores i) 0
     ∙ number-ext 8 (λ (j : ℕ). pick (leaves c code w (classOf i j)) (bit 0 j) (bit (maskAt stores i) j)) (λ (j : ℕ). mark (takes c code w (classOf i j))) (λ j l. rw (bit-zero j, mask-bit stores i j l) (takes-bit c code w (classOf i j)))
 
--- ---- the store
-
-pub store-byte : (e : Bool) (c : Closed) (code w i x : ℕ) → byteOf (λ (j : ℕ). store e c code w i j (bit x j)) ≡ blendK 8 (pick e (maskAt (takes c code w) i) 0) x w
-unfolding store
-store-byte true c code w i x = sym (blend-by (takes c code w) i x w)
-store-byte false c code w i x = number-ext 8 (bit x) (λ (j : ℕ). pickBit (bit 0 j) (bit x j) (bit w j)) (λ j h. rw (bit-zero j)) ∙ sym (blend-number 8 0 x w)
+pub reach-has : (c : Closed) (code w i j : ℕ) → i < 256 → j < 8 → eqb (bit (reachOf c code i (guestAt i) w) j) 1 ≡ takes c code w (classOf i j)
+reach-has c code w i j h k = rw (reach-mask c code w i h, mask-bit (takes c code w) i j k) (mark-is (takes c code w (classOf i j)))

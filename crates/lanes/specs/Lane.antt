@@ -1,4 +1,4 @@
--- One byte lane of a guest write, as the code makes it.
+-- Which guest bits of a byte a write reaches, as the code finds them.
 use mathlib.Core.Bool.{Bool, not}
 use Prim.Native.Nat.{ℕ, _+_}
 use Rattle.bits.specs.Bits.{blendK}
@@ -24,10 +24,6 @@ leaves c code w k = stores k and not (takes c code w k)
 unfoldable pub heldOf : Closed → ℕ → ℕ → ℕ → ℕ
 heldOf c code w i = maskAt (leaves c code w) i
 
--- ---- the lane
-
-unfoldable pub ifEnabled : ℕ → ℕ → ℕ
-ifEnabled on mask = if on is 1 then mask else 0
-
-unfoldable pub laneOf : Closed → ℕ → ℕ → ℕ → ℕ → ℕ → ℕ → ℕ
-laneOf c code i on full old w = blendK 8 (ifEnabled on (blendK 8 (heldOf c code w i) full 0)) old w
+-- the guest bits that take what is written
+unfoldable pub reachOf : Closed → ℕ → ℕ → ℕ → ℕ → ℕ
+reachOf c code i full w = blendK 8 (heldOf c code w i) full 0

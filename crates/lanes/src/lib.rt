@@ -1,6 +1,6 @@
-// What one byte lane of a guest write leaves: the special rules hold bits back, the guest mask and the lane let the others through.
+// Which guest bits of a byte a write reaches: the special rules hold bits back, the guest mask lets the others through.
 ghost use mathlib.Core.Path.{_≡_};
-ghost use Rattle.lanes.specs.Lane.{takenMask, ifClosed, heldOf, ifEnabled, laneOf};
+ghost use Rattle.lanes.specs.Lane.{takenMask, ifClosed, heldOf, reachOf};
 use rules::Closed;
 
 // Bits 31:24 of GMADR, which has the bits that a size code takes.
@@ -61,18 +61,9 @@ fn held(c: Closed, code: u8, i: usize, w: u8) -> u8
     0
 }
 
-// ---- the lane
-
-fn if_enabled(on: u32, mask: u8) -> u8
-    ensures { λ r. ⌜ r ≡ ifEnabled on mask ⌝ }
+// The guest bits of byte `i` that take what is written: `full` is its guest mask.
+pub fn reach(c: Closed, code: u8, i: usize, full: u8, w: u8) -> u8
+    ensures { λ r. ⌜ r ≡ reachOf c code i full w ⌝ }
 {
-    if on == 1 { mask } else { 0 }
-}
-
-// What one byte holds afterwards: `on` is its lane, `full` its guest mask.
-pub fn lane(c: Closed, code: u8, i: usize, on: u32, full: u8, old: u8, w: u8) -> u8
-    ensures { λ r. ⌜ r ≡ laneOf c code i on full old w ⌝ }
-{
-    let open = bits::blend(held(c, code, i, w), full, 0);
-    bits::blend(if_enabled(on, open), old, w)
+    bits::blend(held(c, code, i, w), full, 0)
 }

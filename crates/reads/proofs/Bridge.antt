@@ -19,9 +19,10 @@ use Rattle.map.specs.Class.{computed, sameClass}
 use Rattle.map.specs.Map.{rows, rowAt, classOf}
 use Rattle.rules.specs.declared.State.{State}
 use Rattle.rules.specs.Access.{byte, badOffset, badLanes}
-use Rattle.rules.specs.Read.{pointer, readBit, undriven, readValue, readOf, imageOf}
-use Rattle.rules.proofs.Access.{good-offset}
-use Rattle.reads.specs.Shown.{shownByte, shownDword, spreadOf, readLanes, imageBytes}
+use Rattle.rules.specs.Read.{pointer, readBit, readValue, readOf, imageOf}
+use Rattle.plain.specs.Bytes.{drivenOf}
+use Rattle.plain.proofs.Bridge.{driven-is, reply-is}
+use Rattle.reads.specs.Shown.{shownByte, shownDword, readLanes, imageBytes}
 
 -- ---- CAPPOINT is the computed byte
 
@@ -35,19 +36,6 @@ all-computed = tt
 computed-is : (i j : ℕ) → i < 256 → j < 8 → sameClass (classOf i j) computed ≡ eqb i CAPPOINT
 unfolding computed-at
 computed-is i j h k = same-eq _ _ (below 8 (λ (j : ℕ). same (sameClass (classOf i j) computed) (eqb i CAPPOINT)) (below 256 computed-at all-computed i h) j k)
-
--- ---- the mask of the lanes
-
-spread-at : ℕ → Bool
-spread-at l = allBelow 32 (λ (n : ℕ). eqb (bit (spreadOf l) n) (bit l (n / 8)))
-
-all-spread : T (allBelow 16 spread-at)
-unfolding spread-at spreadOf
-all-spread = tt
-
-spread-bit : (l n : ℕ) → l < 16 → n < 32 → bit (spreadOf l) n ≡ bit l (n / 8)
-unfolding spread-at
-spread-bit l n h k = eqb→eq _ _ (below 32 (λ (n : ℕ). eqb (bit (spreadOf l) n) (bit l (n / 8))) (below 16 spread-at all-spread l h) n k)
 
 -- ---- bytes and dwords
 
@@ -80,21 +68,13 @@ module _ (s : State) (b : (i : ℕ) → byte s i < 2 ^ 8) where
       let whole : shownDword (s .bytes) o ≡ numberOf 32 (λ (n : ℕ). bit (shownByte (s .bytes) (o + n / 8)) (n % 8)) = rw add-zero at (joined-little (λ (k : ℕ). shownByte (s .bytes) (o + k))) ∙ sym (little-bits 4 (λ (k : ℕ). shownByte (s .bytes) (o + k)) (λ k. shown< (o + k))) in
       ap (λ (x : ℕ). bit x n) whole ∙ bit-number 32 (λ (n : ℕ). bit (shownByte (s .bytes) (o + n / 8)) (n % 8)) (λ n. bit<2 (shownByte (s .bytes) (o + n / 8)) (n % 8)) n k ∙ shown-bit (o + n / 8) (n % 8) (omega arith) (omega arith)
 
-  value-is : (o l : ℕ) → o + 3 < 256 → l < 16 → blendK 32 (spreadOf l) 0 (shownDword (s .bytes) o) ≡ readValue s o l
+  value-is : (o l : ℕ) → o + 3 < 256 → l < 16 → drivenOf l (shownDword (s .bytes) o) ≡ readValue s o l
   unfolding readValue
-  value-is o l h k =
-      blend-number 32 (spreadOf l) 0 (shownDword (s .bytes) o)
-      ∙ number-ext 32 (λ (n : ℕ). pickBit (bit (spreadOf l) n) (bit 0 n) (bit (shownDword (s .bytes) o) n)) (λ (n : ℕ). pick (eqb (bit l (n / 8)) 1) (readBit s (o + n / 8) (n % 8)) undriven)
-      (λ n j. rw (spread-bit l n k j, bit-zero n, dword-bit o n h j) (pick-bit (bit l (n / 8)) undriven (readBit s (o + n / 8) (n % 8)) (bit<2 l (n / 8))))
+  value-is o l h k = driven-is (readBit s) o l (shownDword (s .bytes) o) k (λ n j. dword-bit o n h j)
 
   pub read-is : (o l : ℕ) → readLanes (s .bytes) o l ≡ readOf s o l
   unfolding readLanes readOf
-  read-is o l = go (badOffset o) (badLanes l) refl refl
-    where
-      go : (x y : Bool) → badOffset o ≡ x → badLanes l ≡ y → pick x (no OFFSET) (pick y (no LANES) (ok (blendK 32 (spreadOf l) 0 (shownDword (s .bytes) o)))) ≡ pick x (no OFFSET) (pick y (no LANES) (ok (readValue s o l)))
-      go true y e d = refl
-      go false true e d = refl
-      go false false e d = rw (value-is o l (good-offset o e .0) (omega (arith, ltb-false 15 l d)))
+  read-is o l = reply-is o l (drivenOf l (shownDword (s .bytes) o)) (readValue s o l) (value-is o l)
 
   -- a byte as a guest reads it
   shown-byte : (i : ℕ) → i < 256 → shownByte (s .bytes) i ≡ byteOf (readBit s i)

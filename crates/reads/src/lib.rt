@@ -2,7 +2,7 @@
 ghost use mathlib.Core.Path.{_≡_};
 ghost use Prim.Native.Nat.{_+_, _*_, _%_, _<_};
 ghost use Rattle.rules.specs.Answers.{readSays};
-ghost use Rattle.reads.specs.Shown.{shownByte, shownDword, spreadOf, readLanes, imageBytes};
+ghost use Rattle.reads.specs.Shown.{shownByte, shownDword, readLanes, imageBytes};
 use rules::ReadAnswer;
 
 // A byte as a guest reads it: CAPPOINT is computed from CAPL.
@@ -40,13 +40,6 @@ pub fn dword(m: &[u8; 256], d: u8) -> u32
     dword_at(m, o)
 }
 
-// The mask of the enabled lanes.
-fn spread(lanes: u32) -> u32
-    ensures { λ r. ⌜ r ≡ spreadOf lanes ⌝ }
-{
-    lanes % 2 * 255 + lanes / 2 % 2 * 65280 + lanes / 4 % 2 * 16711680 + lanes / 8 % 2 * 4278190080
-}
-
 // The enabled bytes of the dword at `offset`, 00 in the other lanes.
 pub fn read(m: &[u8; 256], offset: u32, lanes: u32) -> ReadAnswer
     ensures { λ r. ⌜ readSays r ≡ readLanes (now (m .entry)) offset lanes ⌝ }
@@ -61,7 +54,7 @@ pub fn read(m: &[u8; 256], offset: u32, lanes: u32) -> ReadAnswer
         return ReadAnswer::Lanes;
     }
     let o = offset as usize;
-    ReadAnswer::Value(bits::blend32(spread(lanes), 0, dword_at(m, o)))
+    ReadAnswer::Value(plain::driven(lanes, dword_at(m, o)))
 }
 
 // The 256 bytes as a guest reads them.

@@ -15,7 +15,8 @@ use Rattle.map.specs.Map.{classOf}
 use Rattle.rules.specs.declared.State.{State}
 use Rattle.rules.specs.Access.{byte, badOffset, badLanes, done, refused}
 use Rattle.rules.specs.Guest.{bitAfter, stepOf, writeOf}
-use Rattle.rules.specs.Read.{pointer, readBit, undriven, readValue}
+use Rattle.rules.specs.Read.{pointer, readBit, readValue}
+use Rattle.rules.specs.Plain.{undriven}
 use Rattle.rules.specs.Host.{notHost, hostBit, hostStepOf, hostOf}
 use Rattle.rules.proofs.Access.{after<2}
 

@@ -14,11 +14,13 @@ use Rattle.rules.specs.declared.State.{State}
 use Rattle.rules.specs.Access.{byte}
 use Rattle.rules.specs.Host.{notHost, hostBit, hostStepOf, hostOf}
 use Rattle.rules.specs.Fresh.{freshOf}
-use Rattle.rules.specs.Events.{Event, read, write, port-read, port-write, host-update, platform-reset, happens, runFrom, run}
-use Rattle.rules.specs.History.{isReset, anyReset, since, GuestWrite, none, at, guestWrite, Given, nothing, given, _orElse_, gives, lastGiven, lastUpdate, orDefault}
+use Rattle.rules.specs.Events.{Event, read, write, port-read, port-write, host-update, platform-reset, happens, next, run}
+use Rattle.rules.specs.History.{isReset, GuestWrite, none, at, guestWrite, gives, lastUpdate, orDefault}
+use Rattle.rules.specs.Past.{Given, nothing, given, orHeld}
+use Rattle.rules.proofs.Past.{history}
 use Rattle.rules.proofs.EachBit.{bit-after, bit-hosted, host-state}
 use Rattle.rules.proofs.Kept.{unstored, mask-off, host-kept}
-use Rattle.rules.proofs.Runs.{run-since, since-none, performed, write-effect, port-effect, always}
+use Rattle.rules.proofs.Runs.{reset-forgets, performed, write-effect, port-effect, always}
 
 -- the bit that starts a function reset has default 0, and is not the host's
 start-at : ℕ → Bool
@@ -33,15 +35,6 @@ unfolding start-at
 start-is i j h k e =
     let t = other (not (sameClass (classOf i j) resetStart)) _ (rw e) (below 8 (λ (j : ℕ). either (not (sameClass (classOf i j) resetStart)) (both (eqb (bit (defaultAt i) j) 0) (not (isHost (classOf i j))))) (below 256 start-at all-start i h) j k) in
     (eqb→eq _ _ (both-left (eqb (bit (defaultAt i) j) 0) _ t), is-false _ (both-right (eqb (bit (defaultAt i) j) 0) _ t))
-
--- the bit that was given, or the old one
-abbrev orOld : Given → ℕ → ℕ
-orOld nothing x = x
-orOld (given y) x = y
-
-later-wins : (a b : Given) (x : ℕ) → orOld a (orOld b x) ≡ orOld (a orElse b) x
-later-wins nothing b x = refl
-later-wins (given y) b x = refl
 
 module _ (i j : ℕ) (h : i < 256) (k : j < 8) where
   abbrev B : State → ℕ
@@ -74,19 +67,19 @@ module _ (i j : ℕ) (h : i < 256) (k : j < 8) where
     guest-bit none s z = refl
     guest-bit (at o l v) s z = bit-after s o l v i j h k ∙ unstored s o l v i j fixed z
 
-    host-bit : (s : State) (o m v : ℕ) → B (hostOf s o m v .state) ≡ orOld (gives i j (host-update o m v)) (B s)
+    host-bit : (s : State) (o m v : ℕ) → B (hostOf s o m v .state) ≡ orHeld (gives i j (host-update o m v)) (B s)
     unfolding gives hostBit
     host-bit s o m v = rw (host-state s o m v) (go (not (either (ltb 255 o) (notHost o m))))
       where
-        chosen : (x : Bool) → pick x (bit v j) (B s) ≡ orOld (pick x (given (bit v j)) nothing) (B s)
+        chosen : (x : Bool) → pick x (bit v j) (B s) ≡ orHeld (pick x (given (bit v j)) nothing) (B s)
         chosen true = refl
         chosen false = refl
 
-        go : (a : Bool) → B (pick a (hostStepOf s o m v) s) ≡ orOld (pick (both a (both (eqb i o) (eqb (bit m j) 1))) (given (bit v j)) nothing) (B s)
+        go : (a : Bool) → B (pick a (hostStepOf s o m v) s) ≡ orHeld (pick (both a (both (eqb i o) (eqb (bit m j) 1))) (given (bit v j)) nothing) (B s)
         go true = bit-hosted s o m v i j h k ∙ chosen (both (eqb i o) (eqb (bit m j) 1))
         go false = refl
 
-    event-bit : (e : Event) (s : State) → isReset e ≡ false → Z s → B (happens e s .state) ≡ orOld (gives i j e) (B s)
+    event-bit : (e : Event) (s : State) → isReset e ≡ false → Z s → B (happens e s .state) ≡ orHeld (gives i j e) (B s)
     unfolding happens gives
     event-bit (read o l) s n z = refl
     event-bit (write o l v) s n z = ap B (write-effect s o l v) ∙ guest-bit (guestWrite (s .latch) (write o l v)) s z
@@ -104,20 +97,11 @@ module _ (i j : ℕ) (h : i < 256) (k : j < 8) where
     ungiven (host-update o m v) t = no-gift (start-is i j h k t .1) o m v
     ungiven platform-reset t = refl
 
-    fixed-run : (es : List Event) (s : State) → anyReset es ≡ false → Z s → B (runFrom s es) ≡ orOld (lastGiven i j es) (B s)
-    unfolding runFrom anyReset lastGiven
-    fixed-run [] s n z = refl
-    fixed-run (e ∷ es) s n z =
-        let q = event-bit e s (either-left (isReset e) (anyReset es) n) z in
-        fixed-run es (happens e s .state) (either-right (isReset e) (anyReset es) n) (λ t. q ∙ rw (ungiven e t) (z t))
-        ∙ ap (orOld (lastGiven i j es)) q ∙ later-wins (lastGiven i j es) (gives i j e) (B s)
+    keeps : (e : Event) (s : State) → isReset e ≡ false → Z s → Z (happens e s .state)
+    keeps e s n z t = event-bit e s n z ∙ rw (ungiven e t) (z t)
 
     pub fixed-history : (es : List Event) → B (run es) ≡ orDefault (lastUpdate i j es) i j
-    fixed-history es = ap B (run-since es) ∙ fixed-run (since es) freshOf (since-none es) (λ t. fresh-bit ∙ start-is i j h k t .0) ∙ go (lastUpdate i j es)
-      where
-        go : (g : Given) → orOld g (B freshOf) ≡ orDefault g i j
-        go nothing = fresh-bit
-        go (given x) = refl
+    fixed-history es = history isReset next freshOf reset-forgets B Z (gives i j) event-bit keeps (λ t. fresh-bit ∙ start-is i j h k t .0) es ∙ ap (orHeld (lastUpdate i j es)) fresh-bit
 
     -- not the host's either: it holds its default
     pub default-holds : isHost (classOf i j) ≡ false → sameClass (classOf i j) resetStart ≡ false → (es : List Event) → B (run es) ≡ bit (defaultAt i) j

@@ -3,6 +3,7 @@ pub mod EachBit
 pub mod NoLanes
 pub mod One
 pub mod Kept
+pub mod Past
 pub mod Runs
 pub mod Good
 pub mod Once

@@ -15,7 +15,8 @@ use Rattle.rules.specs.declared.State.{State}
 use Rattle.rules.specs.declared.Closed.{Closed}
 use Rattle.rules.specs.Access.{byte, enabled}
 use Rattle.rules.specs.Guest.{ofField, touches, closedAfter, store, clear, reset, starts, storedBit, bitAfter, stepOf}
-use Rattle.rules.specs.Read.{readBit, undriven, readValue}
+use Rattle.rules.specs.Read.{readBit, readValue}
+use Rattle.rules.specs.Plain.{undriven}
 
 -- ---- a read
 

@@ -22,6 +22,8 @@ use Rattle.rules.specs.History.{isReset, anyReset, since, latchAfter, Gu
 use Rattle.rules.proofs.Access.{enabled-within}
 use Rattle.rules.proofs.EachBit.{bit-after, bit-hosted, host-state}
 use Rattle.rules.proofs.Kept.{only-stored, stored-off, host-kept}
+use Rattle.rules.specs.Past as P
+use Rattle.rules.specs.Past.{ran}
 use Rattle.rules.proofs.Runs.{run-since, since-none, performed, write-effect, port-effect}
 
 -- ---- flags
@@ -145,7 +147,7 @@ module _ (f : Field) (i j : ℕ) (h : i < 256) (k : j < 8) (is : classOf i j ≡
   -- ---- runs without a platform reset
 
   closed-run : (es : List Event) (s : State) → anyReset es ≡ false → closed (s .closed) f ≡ true → B (runFrom s es) ≡ B s
-  unfolding runFrom anyReset
+  unfolding ran P.anyReset
   closed-run [] s n c = refl
   closed-run (e ∷ es) s n c =
       let a = event e s (either-left (isReset e) (anyReset es) n) in
@@ -156,7 +158,7 @@ module _ (f : Field) (i j : ℕ) (h : i < 256) (k : j < 8) (is : classOf i j ≡
       either-on false = refl
 
   open-run : (es : List Event) (s : State) → anyReset es ≡ false → closed (s .closed) f ≡ false → B s ≡ bit (defaultAt i) j → B (runFrom s es) ≡ overDefault (firstFrom (s .latch) f es) i j
-  unfolding runFrom anyReset firstFrom
+  unfolding ran P.anyReset firstFrom
   open-run [] s n c d = d
   open-run (e ∷ es) s n c d = go (touching f (guestWrite (s .latch) e)) refl (λ q r. open-run es (happens e s .state) (either-right (isReset e) (anyReset es) n) q r)
     where

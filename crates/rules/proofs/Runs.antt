@@ -13,23 +13,16 @@ use Rattle.rules.specs.Guest.{stepOf, writeOf}
 use Rattle.rules.specs.Host.{notHost, hostStepOf}
 use Rattle.rules.specs.Fresh.{freshOf}
 use Rattle.rules.specs.Ports.{ADDRESS, DATA, badWidth, atLatch, notOurs, otherFunction, latchOf, latched, dwordOf, portLanes, placed, portWriteOf}
-use Rattle.rules.specs.Events.{Event, read, write, port-read, port-write, host-update, platform-reset, happens, runFrom, run}
+use Rattle.rules.specs.Events.{Event, read, write, port-read, port-write, host-update, platform-reset, happens, next, runFrom, run}
 use Rattle.rules.specs.History.{isReset, anyReset, since, latchAfter, GuestWrite, none, at, guestWrite}
+use Rattle.rules.specs.Past.{ran}
 use Rattle.rules.proofs.EachBit.{write-state, host-state}
+use Rattle.rules.proofs.Past as P
 
 -- ---- the events since the last platform reset
 
-since-all : (es : List Event) → anyReset es ≡ false → since es ≡ es
-unfolding since
-since-all [] n = refl
-since-all (e ∷ es) n = rw n
-
-either-true : (a b : Bool) → either a b ≡ true → b ≡ false → a ≡ true
-either-true true b e n = refl
-either-true false b e n = absurd (subst T (sym e ∙ n) tt)
-
 -- a platform reset forgets the state
-reset-forgets : (e : Event) (s : State) → isReset e ≡ true → happens e s .state ≡ freshOf
+pub reset-forgets : (e : Event) (s : State) → isReset e ≡ true → happens e s .state ≡ freshOf
 unfolding happens
 reset-forgets (read o l) s e = absurd (subst T (sym e) tt)
 reset-forgets (write o l v) s e = absurd (subst T (sym e) tt)
@@ -38,31 +31,12 @@ reset-forgets (port-write p w v) s e = absurd (subst T (sym e) tt)
 reset-forgets (host-update o m v) s e = absurd (subst T (sym e) tt)
 reset-forgets platform-reset s e = refl
 
-since-reset : (es : List Event) (s : State) → anyReset es ≡ true → runFrom s es ≡ run (since es)
-unfolding runFrom since anyReset
-since-reset [] s t = absurd (subst T (sym t) tt)
-since-reset (e ∷ es) s t = rw t (go (anyReset es) refl (λ u. since-reset es (happens e s .state) u))
-  where
-    go : (b : Bool) → anyReset es ≡ b → (anyReset es ≡ true → runFrom (happens e s .state) es ≡ run (since es)) → runFrom (happens e s .state) es ≡ run (since es)
-    go true u ih = ih u
-    go false u ih = rw (reset-forgets e s (either-true (isReset e) (anyReset es) t u), since-all es u)
-
 -- a run is the run of what came since
 pub run-since : (es : List Event) → run es ≡ run (since es)
-run-since es = go (anyReset es) refl
-  where
-    go : (b : Bool) → anyReset es ≡ b → run es ≡ run (since es)
-    go true t = since-reset es freshOf t
-    go false n = rw (since-all es n)
+run-since es = P.run-since isReset next freshOf reset-forgets es
 
 pub since-none : (es : List Event) → anyReset (since es) ≡ false
-unfolding since anyReset
-since-none [] = refl
-since-none (e ∷ es) = go (either (isReset e) (anyReset es)) refl (since-none es)
-  where
-    go : (b : Bool) → either (isReset e) (anyReset es) ≡ b → anyReset (since es) ≡ false → anyReset (pick b (since es) (e ∷ es)) ≡ false
-    go true n ih = ih
-    go false n ih = n
+since-none es = P.since-none isReset es
 
 -- ---- what an event comes to
 
@@ -134,7 +108,7 @@ module _ (P : State → Type 0) (fresh : P freshOf) (step : (s : State) (o l v :
   event-keeps platform-reset s h = fresh
 
   runFrom-keeps : (es : List Event) (s : State) → P s → P (runFrom s es)
-  unfolding runFrom
+  unfolding ran
   runFrom-keeps [] s h = h
   runFrom-keeps (e ∷ es) s h = runFrom-keeps es (happens e s .state) (event-keeps e s h)
 

@@ -13,8 +13,9 @@ use Rattle.rules.specs.Host.{notHost, hostBit, hostStepOf, hostOf}
 use Rattle.rules.specs.Fresh.{freshOf}
 use Rattle.rules.specs.Ports.{notOurs, otherFunction, latchOf, portLanes, portWriteOf}
 use Rattle.rules.specs.Claims.{base, apertureBase}
-use Rattle.rules.specs.Events.{Event, write, port-write, host-update, platform-reset, happens, runFrom, run}
-use Rattle.rules.specs.History.{anyReset, since, none, at, guestWrite, firstFrom, firstWrite, nothing, given, gives, lastGiven, lastUpdate}
+use Rattle.rules.specs.Events.{Event, write, port-write, host-update, platform-reset, happens, run}
+use Rattle.rules.specs.History.{none, at, guestWrite, firstFrom, firstWrite, gives, lastUpdate}
+use Rattle.rules.specs.Past.{nothing, given, ran, anyReset, since, lastGiven}
 use Rattle.rules.specs.Demand3.{codeOf}
 
 -- ---- the runs
@@ -75,7 +76,7 @@ pub record Witnessed : Type 0 where
   pub port-refused : happens (port-write 0xCFC 4 1) (run (port-write 0xCF8 4 0x80001800 ∷ [])) .reply ≡ no OTHER-FUNCTION
 
 pub witnessed : Witnessed
-unfolding numberOf rows rowAt classOf defaults enabled byteFor bitsTaken takenBy takes store clear reset starts storedBit sizeAfter bitAfter ofField touches closedAfter stepOf writeOf pointer readBit readValue readOf notHost hostBit hostStepOf hostOf freshOf notOurs otherFunction latchOf portLanes portWriteOf base happens runFrom anyReset since guestWrite firstFrom gives lastGiven
+unfolding numberOf rows rowAt classOf defaults enabled byteFor bitsTaken takenBy takes store clear reset starts storedBit sizeAfter bitAfter ofField touches closedAfter stepOf writeOf pointer readBit readValue readOf notHost hostBit hostStepOf hostOf freshOf notOurs otherFunction latchOf portLanes portWriteOf base happens ran anyReset since guestWrite firstFrom gives lastGiven
 witnessed = record {
   halves-first = refl;
   halves-read = refl;

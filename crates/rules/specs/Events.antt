@@ -1,5 +1,5 @@
 -- What can happen to the twin, with any arguments, what is said to it, and what a run of events leaves.
-use mathlib.Core.List.{List, [], _∷_}
+use mathlib.Core.List.{List}
 use Prim.Native.Nat.{ℕ}
 use Rattle.answer.specs.Refusals.{Reply}
 use Rattle.rules.specs.declared.State.{State}
@@ -9,6 +9,7 @@ use Rattle.rules.specs.Read.{readOf}
 use Rattle.rules.specs.Host.{hostOf}
 use Rattle.rules.specs.Fresh.{freshOf}
 use Rattle.rules.specs.Ports.{portReadOf, portWriteOf}
+use Rattle.rules.specs.Past.{ran}
 
 pub data Event : Type 0 where
   -- offset, lanes
@@ -36,9 +37,12 @@ happens (port-write p w v) s = portWriteOf s p w v
 happens (host-update o m v) s = hostOf s o m v
 happens platform-reset s = done freshOf
 
-unfoldable pub runFrom : State → List Event → State
-runFrom s [] = s
-runFrom s (e ∷ es) = runFrom (happens e s .state) es
+-- the state that an event leaves
+abbrev pub next : Event → State → State
+next e s = happens e s .state
+
+abbrev pub runFrom : State → List Event → State
+runFrom s es = ran next s es
 
 -- a run starts from the fresh state
 abbrev pub run : List Event → State

@@ -11,6 +11,7 @@ use Rattle.map.specs.Map.{classOf, defaultAt}
 use Rattle.rules.specs.declared.State.{State}
 use Rattle.rules.specs.declared.Closed.{Closed}
 use Rattle.rules.specs.Access.{byte, enabled, byteFor, badOffset, badLanes, Outcome, done, refused}
+use Rattle.rules.specs.Plain.{storedOver, returnedBit}
 
 -- ---- the write-once fields
 
@@ -72,8 +73,7 @@ takes c code w resetStart = false
 
 -- a guest write touches only enabled lanes
 unfoldable pub store : Bool → Closed → ℕ → ℕ → ℕ → ℕ → ℕ → ℕ
-store true c code w i j x = if takes c code w (classOf i j) then bit w j else x
-store false c code w i j x = x
+store lane c code w i j x = storedOver lane (takes c code w (classOf i j)) (bit w j) x
 
 -- every write that enables MSAC clears the bits that the code then makes read-only
 unfoldable pub clear : Bool → ℕ → ℕ → ℕ → ℕ → ℕ
@@ -82,7 +82,7 @@ clear false code i j x = x
 
 -- a function reset returns F bits to default, and the bit that starts it then reads 0
 unfoldable pub reset : Bool → ℕ → ℕ → ℕ → ℕ
-reset true i j x = if hasF (classOf i j) then bit (defaultAt i) j else if sameClass (classOf i j) resetStart then 0 else x
+reset true i j x = returnedBit (λ (i j : ℕ). hasF (classOf i j)) defaultAt (λ (i j : ℕ). if sameClass (classOf i j) resetStart then 0 else x) i j
 reset false i j x = x
 
 -- ---- a guest write of v to the dword at o, with lanes l

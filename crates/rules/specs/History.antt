@@ -6,6 +6,8 @@ use Rattle.bits.specs.Bits.{bit}
 use Rattle.bits.specs.Choice.{if_then_else_, _and_, _or_, _is_, _<?_}
 use Rattle.map.specs.Class.{Field}
 use Rattle.map.specs.Map.{defaultAt}
+use Rattle.rules.specs.Past as P
+use Rattle.rules.specs.Past.{Given, nothing, given, orHeld, lastGiven}
 use Rattle.rules.specs.Access.{enabled, byteFor, badOffset, badLanes}
 use Rattle.rules.specs.Guest.{touches}
 use Rattle.rules.specs.Host.{notHost}
@@ -22,13 +24,11 @@ isReset (port-write p w v) = false
 isReset (host-update o m v) = false
 isReset platform-reset = true
 
-unfoldable pub anyReset : List Event → Bool
-anyReset [] = false
-anyReset (e ∷ es) = isReset e or anyReset es
+abbrev pub anyReset : List Event → Bool
+anyReset es = P.anyReset isReset es
 
-unfoldable pub since : List Event → List Event
-since [] = []
-since (e ∷ es) = if anyReset (e ∷ es) then since es else e ∷ es
+abbrev pub since : List Event → List Event
+since es = P.since isReset es
 
 -- ---- the port latch, by the accepted writes to CF8h
 
@@ -78,15 +78,6 @@ overDefault (at o l v) i j = if enabled o l i then bit (byteFor o v i) j else bi
 
 -- ---- accepted host updates
 
-pub data Given : Type 0 where
-  nothing : Given
-  given : ℕ → Given
-
-infixr 20 _orElse_
-abbrev pub _orElse_ : Given → Given → Given
-nothing orElse b = b
-(given x) orElse b = given x
-
 -- what an event gives bit j of byte i, if it is an accepted host update that masks it
 unfoldable pub gives : ℕ → ℕ → Event → Given
 gives i j (read o l) = nothing
@@ -97,14 +88,9 @@ gives i j (host-update o m v) = if not (255 <? o or notHost o m) and i is o and 
 gives i j platform-reset = nothing
 
 -- the last of them that does
-unfoldable pub lastGiven : ℕ → ℕ → List Event → Given
-lastGiven i j [] = nothing
-lastGiven i j (e ∷ es) = lastGiven i j es orElse gives i j e
-
 abbrev pub lastUpdate : ℕ → ℕ → List Event → Given
-lastUpdate i j es = lastGiven i j (since es)
+lastUpdate i j es = lastGiven (gives i j) (since es)
 
 -- the bit that it gave; the default where there is none
 abbrev pub orDefault : Given → ℕ → ℕ → ℕ
-orDefault nothing i j = bit (defaultAt i) j
-orDefault (given x) i j = x
+orDefault g i j = orHeld g (bit (defaultAt i) j)

@@ -1,4 +1,6 @@
 pub mod Access
+pub mod Plain
+pub mod Past
 pub mod Guest
 pub mod Read
 pub mod Host

@@ -4,7 +4,7 @@ use mathlib.Core.List.{List}
 use mathlib.Core.Bool.{Bool, true, false, not}
 use Prim.Native.Nat.{ℕ, _+_, _/_, _%_, _^_, _<_, _≤_}
 use native.Mathlib.Omega.{arith}
-use native.Mathlib.Nat.{zero-add, add-zero, div-one}
+use native.Mathlib.Nat.{add-zero, div-one}
 use lib.Dec.{T, eqb}
 use borrow.Author.Tests.{ne-eqb}
 use lib.ListN.{length, getD, set, length-set}
@@ -12,50 +12,48 @@ use Rattle.bits.specs.Bits.{bit, byteOf, pickBit, blendK}
 use Rattle.bits.specs.Choice.{pick, both, allBelow}
 use Rattle.bits.specs.Places.{bytes}
 use Rattle.bits.proofs.Laws.{number-ext, bit-number, bit-zero, bit<2, pick-bit, blend-number}
-use Rattle.bits.proofs.Below.{below, same, same-eq, is-false, pick-has}
-use Rattle.bits.proofs.Places.{getD-bytes, length-bytes, as-bytes, length-mapN, getD-mapN, set-at, length-put4, put4-at}
+use Rattle.bits.proofs.Below.{below, same, same-eq, is-false, pick-has, mark-is}
+use Rattle.bits.proofs.Places.{getD-bytes, length-bytes, as-bytes, set-at}
 use Rattle.answer.specs.Refusals.{ok, no, OFFSET, LANES}
 use Rattle.map.specs.Registers.{GMADR, MSAC, AFCTL}
 use Rattle.map.specs.Class.{resetStart, hasF, sameClass}
-use Rattle.map.specs.Map.{rows, rowAt, classOf, maskAt, guests, defaultAt}
-use Rattle.map.proofs.Classes.{reset-mask}
+use Rattle.map.specs.Map.{rows, rowAt, classOf, maskAt, guests, resets, defaults, resetAt, defaultAt}
+use Rattle.map.proofs.Classes.{reset-bit}
 use Rattle.map.proofs.Blends.{blend-by}
 use Rattle.rules.specs.declared.State.{State}
 use Rattle.rules.specs.Access.{byte, enabled, byteFor, badOffset, badLanes, Outcome, done, refused}
-use Rattle.rules.specs.Guest.{sizeOf, takenBy, store, clear, reset, starts, storedBit, sizeAfter, bitAfter, closedAfter, stepOf, writeOf}
-use Rattle.rules.proofs.Access.{good-offset, enabled-at, byteFor-at, stored<2, clear<2, outside, not-within, no-aperture}
-use Rattle.lanes.specs.Lane.{takenMask, ifEnabled, laneOf}
-use Rattle.lanes.proofs.Bridge.{open-mask, store-byte}
-use Rattle.writes.specs.Bytes.{laneAt, storedBytes, clearedBytes, resetByte, returned, resetBytes, clearIf, resetIf, stepBytes, Lent, lent, writeLanes}
+use Rattle.rules.specs.Guest.{sizeOf, takenBy, takes, store, clear, reset, starts, storedBit, sizeAfter, bitAfter, closedAfter, stepOf, writeOf}
+use Rattle.rules.proofs.Access.{good-offset, byteFor-at, stored<2, clear<2, no-aperture}
+use Rattle.rules.specs.Plain.{Mask}
+use Rattle.plain.proofs.Bridge as P
+use Rattle.plain.proofs.Bridge.{stored-is, length-returned}
+use Rattle.lanes.specs.Lane.{takenMask}
+use Rattle.lanes.proofs.Bridge.{reach-has}
+use Rattle.writes.specs.Bytes.{reachAt, storedBytes, clearedBytes, returned, resetBytes, clearIf, resetIf, stepBytes, Lent, lent, writeLanes}
 
 -- ---- the store
 
 module _ (s : State) (o l v : ℕ) (within : o + 3 < 256) where
-  abbrev after : ℕ → ℕ
-  after i = byteOf (storedBit s o l v i)
+  abbrev code : ℕ
+  code = sizeOf (byte s MSAC)
 
-  lane-byte : (k : ℕ) → k < 4 → laneAt guests (s .closed) (s .bytes) (o + k) (bit l k) (v / 256 ^ k % 256) ≡ after (o + k)
-  unfolding laneOf ifEnabled storedBit
-  lane-byte k h = sym (store-byte (enabled o l (o + k)) (s .closed) (sizeOf (byte s MSAC)) (byteFor o v (o + k)) (o + k) (byte s (o + k)) ∙ rw (enabled-at o l k h, byteFor-at o v k, open-mask (s .closed) (sizeOf (byte s MSAC)) (v / 256 ^ k % 256) (o + k) (omega arith)))
+  -- the mask of the bits that take what is written
+  abbrev reaches : Mask
+  reaches i j = takes (s .closed) code (byteFor o v i) (classOf i j)
 
-  lane-0 : laneAt guests (s .closed) (s .bytes) o (l % 2) (v % 256) ≡ after o
-  lane-0 = simp (add-zero, div-one) at (lane-byte 0 (omega arith))
+  -- the masks that the code makes for the four bytes
+  abbrev made : ℕ → ℕ
+  made t = reachAt guests (s .closed) (s .bytes) (o + t) (v / 256 ^ t % 256)
 
-  pub stored-list : length (s .bytes) ≡ 256 → ((i : ℕ) → byte s i < 2 ^ 8) → storedBytes guests (s .closed) (s .bytes) o l v ≡ bytes after
-  unfolding storedBytes
-  stored-list n b =
-      as-bytes _ after (length-put4 (s .bytes) o _ _ _ _ ∙ n)
-      (λ i h. put4-at (λ (x : ℕ). x ≡ after i) (s .bytes) o
-      (laneAt guests (s .closed) (s .bytes) o (l % 2) (v % 256)) (laneAt guests (s .closed) (s .bytes) (o + 1) (l / 2 % 2) (v / 256 % 256)) (laneAt guests (s .closed) (s .bytes) (o + 2) (l / 4 % 2) (v / 65536 % 256)) (laneAt guests (s .closed) (s .bytes) (o + 3) (l / 8 % 2) (v / 16777216 % 256))
-      i (rw n h)
-      (λ n0 n1 n2 n3. outside s o l v i (b i) (not-within o l i (λ x y. apart i n0 n1 n2 n3 x y)))
-      (λ e. lane-0 ∙ ap after (sym e))
-      (λ e. lane-byte 1 (omega arith) ∙ ap after (sym e))
-      (λ e. lane-byte 2 (omega arith) ∙ ap after (sym e))
-      (λ e. lane-byte 3 (omega arith) ∙ ap after (sym e)))
-    where
-      apart : (i : ℕ) → (i ≡ o → ⊥) → (i ≡ o + 1 → ⊥) → (i ≡ o + 2 → ⊥) → (i ≡ o + 3 → ⊥) → o ≤ i → i < o + 4 → ⊥
-      apart i n0 n1 n2 n3 x y = omega arith
+  made-has : (t j : ℕ) → t < 4 → j < 8 → eqb (bit (made t) j) 1 ≡ reaches (o + t) j
+  made-has t j h k = reach-has (s .closed) code (v / 256 ^ t % 256) (o + t) j (omega arith) k ∙ rw (byteFor-at o v t)
+
+  made-0 : made 0 ≡ reachAt guests (s .closed) (s .bytes) o (v % 256)
+  made-0 = rw (add-zero, div-one)
+
+  pub stored-list : length (s .bytes) ≡ 256 → ((i : ℕ) → byte s i < 2 ^ 8) → storedBytes guests (s .closed) (s .bytes) o l v ≡ bytes (λ (i : ℕ). byteOf (storedBit s o l v i))
+  unfolding storedBytes storedBit store
+  stored-list n b = rw (sym made-0) (stored-is (s .bytes) n b o l v within reaches made made-has)
 
 -- ---- bytes whose bits are f, with one place written
 
@@ -120,9 +118,9 @@ module _ (f : ℕ → ℕ → ℕ) (b : (i j : ℕ) → f i j < 2) where
 
   returned-at : (i : ℕ) → i < 256 → getD (returned (bytes F)) i 0 ≡ D i
   returned-at i h =
-      getD-mapN resetByte 256 0 (bytes F) i h (rw (length-bytes F) h) ∙ ap (λ (k : ℕ). resetByte k (getD (bytes F) i 0)) (zero-add i) ∙ ap (resetByte i) (getD-bytes F i h)
-      ∙ ap (λ (m : ℕ). blendK 8 m (F i) (defaultAt i)) (reset-mask i h) ∙ blend-by hasF i (F i) (defaultAt i)
-      ∙ number-ext 8 (λ (j : ℕ). pick (hasF (classOf i j)) (bit (defaultAt i) j) (bit (F i) j)) (λ (j : ℕ). pick (hasF (classOf i j)) (bit (defaultAt i) j) (f i j)) (λ j k. rw (bit-number 8 (f i) (b i) j k))
+      P.returned-at (bytes F) (length-bytes F) resets defaults i h
+      ∙ number-ext 8 (λ (j : ℕ). pick (eqb (bit (resetAt i) j) 1) (bit (defaultAt i) j) (bit (getD (bytes F) i 0) j)) (λ (j : ℕ). pick (hasF (classOf i j)) (bit (defaultAt i) j) (f i j))
+      (λ j k. rw (reset-bit i j h k, mark-is (hasF (classOf i j)), getD-bytes F i h, bit-number 8 (f i) (b i) j k))
 
   reset-other : (i : ℕ) → i < 256 → (i ≡ AFCTL → ⊥) → D i ≡ R i
   unfolding reset
@@ -141,7 +139,7 @@ module _ (f : ℕ → ℕ → ℕ) (b : (i j : ℕ) → f i j < 2) where
   reset-list : resetBytes (bytes F) ≡ bytes R
   unfolding resetBytes
   reset-list =
-      changed D R (returned (bytes F)) AFCTL _ (length-mapN 256 resetByte 0 (bytes F) ∙ length-bytes F) returned-at
+      changed D R (returned (bytes F)) AFCTL _ (length-returned (bytes F) (length-bytes F) resets defaults) returned-at
       (rw (returned-at AFCTL (omega arith)) reset-start) reset-other
 
   pub clear-if : (e : Bool) → clearIf e (bytes F) ≡ bytes (λ (i : ℕ). byteOf (λ (j : ℕ). clear e (sizeOf (F MSAC)) i j (f i j)))

@@ -5,40 +5,38 @@ use Prim.Native.Nat.{ℕ, _+_, _/_, _%_}
 use lib.ListN.{getD, set}
 use Rattle.bits.specs.Bits.{blendK}
 use Rattle.bits.specs.Choice.{if_then_else_, _is_}
-use Rattle.bits.specs.Places.{mapN, put4Of}
 use Rattle.answer.specs.Refusals.{Reply, ok, no, OFFSET, LANES}
 use Rattle.map.specs.Registers.{GMADR, MSAC, AFCTL}
-use Rattle.map.specs.Map.{resetAt, defaultAt}
+use Rattle.map.specs.Map.{resets, defaults}
 use Rattle.rules.specs.declared.Closed.{Closed}
 use Rattle.rules.specs.Access.{enabled, badOffset, badLanes}
 use Rattle.rules.specs.Guest.{sizeOf, starts, closedAfter}
 use Rattle.rules.specs.Answers.{writeSays}
-use Rattle.lanes.specs.Lane.{takenMask, laneOf}
+use Rattle.plain.specs.Bytes.{storedOf, returnedOf}
+use Rattle.lanes.specs.Lane.{takenMask, reachOf}
 use Rattle.writes.specs.declared.Wrote.{Wrote}
 
 -- ---- the store
 
-abbrev pub laneAt : List ℕ → Closed → List ℕ → ℕ → ℕ → ℕ → ℕ
-laneAt guest c m i on w = laneOf c (sizeOf (getD m MSAC 0)) i on (getD guest i 0) (getD m i 0) w
+-- the guest bits of byte i that take the byte written
+abbrev pub reachAt : List ℕ → Closed → List ℕ → ℕ → ℕ → ℕ
+reachAt guest c m i w = reachOf c (sizeOf (getD m MSAC 0)) i (getD guest i 0) w
 
 unfoldable pub storedBytes : List ℕ → Closed → List ℕ → ℕ → ℕ → ℕ → List ℕ
 storedBytes guest c m o l v =
-    put4Of m o
-    (laneAt guest c m o (l % 2) (v % 256))
-    (laneAt guest c m (o + 1) (l / 2 % 2) (v / 256 % 256))
-    (laneAt guest c m (o + 2) (l / 4 % 2) (v / 65536 % 256))
-    (laneAt guest c m (o + 3) (l / 8 % 2) (v / 16777216 % 256))
+    storedOf m o l v
+    (reachAt guest c m o (v % 256))
+    (reachAt guest c m (o + 1) (v / 256 % 256))
+    (reachAt guest c m (o + 2) (v / 65536 % 256))
+    (reachAt guest c m (o + 3) (v / 16777216 % 256))
 
 -- ---- MSAC's clearing, and the function reset
 
 unfoldable pub clearedBytes : List ℕ → List ℕ
 clearedBytes m = set m (GMADR + 3) (blendK 8 (takenMask (sizeOf (getD m MSAC 0))) (getD m (GMADR + 3) 0) 0)
 
-abbrev pub resetByte : ℕ → ℕ → ℕ
-resetByte i x = blendK 8 (resetAt i) x (defaultAt i)
-
 abbrev pub returned : List ℕ → List ℕ
-returned m = mapN 256 resetByte 0 m
+returned m = returnedOf resets defaults m
 
 unfoldable pub resetBytes : List ℕ → List ℕ
 resetBytes m = set (returned m) AFCTL (blendK 8 1 (getD (returned m) AFCTL 0) 0)

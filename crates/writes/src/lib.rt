@@ -1,7 +1,6 @@
 // A guest write, over 256 bytes that are lent: a byte lane at a time, under the guest masks that are lent beside them.
 ghost use mathlib.Core.Path.{_≡_};
 ghost use Prim.Native.Nat.{_+_, _%_, _<_};
-ghost use Rattle.bits.specs.Places.{put4Of};
 ghost use Rattle.rules.specs.Guest.{closedAfter};
 ghost use Rattle.writes.specs.Bytes.{storedBytes, clearedBytes, resetBytes, stepBytes, shutOf, writeLanes, wrote};
 use rules::Closed;
@@ -17,50 +16,16 @@ pub struct Wrote {
 
 // ---- the store
 
-fn put4(m: &mut [u8; 256], o: usize, b0: u8, b1: u8, b2: u8, b3: u8)
-    requires { ⌜ o + 3 < 256 ⌝ }
-    ensures { λ _. ⌜ now (m .exit) ≡ put4Of (now (m .entry)) o b0 b1 b2 b3 ⌝ }
-{
-    m[o] = b0;
-    m[o + 1] = b1;
-    m[o + 2] = b2;
-    m[o + 3] = b3;
-}
-
 fn store(m: &mut [u8; 256], guest: &[u8; 256], c: Closed, o: usize, lanes: u32, value: u32)
     requires { ⌜ o + 3 < 256 ⌝ }
     ensures { λ _. ⌜ now (m .exit) ≡ storedBytes (now (guest .entry)) c (now (m .entry)) o lanes value ⌝ }
 {
     let code = m[map::MSAC] / 2 % 4;
-    let b0 = lanes::lane(c, code, o, lanes % 2, guest[o], m[o], (value % 256) as u8);
-    let b1 = lanes::lane(
-        c,
-        code,
-        o + 1,
-        lanes / 2 % 2,
-        guest[o + 1],
-        m[o + 1],
-        (value / 256 % 256) as u8,
-    );
-    let b2 = lanes::lane(
-        c,
-        code,
-        o + 2,
-        lanes / 4 % 2,
-        guest[o + 2],
-        m[o + 2],
-        (value / 65536 % 256) as u8,
-    );
-    let b3 = lanes::lane(
-        c,
-        code,
-        o + 3,
-        lanes / 8 % 2,
-        guest[o + 3],
-        m[o + 3],
-        (value / 16777216 % 256) as u8,
-    );
-    put4(m, o, b0, b1, b2, b3);
+    let k0 = lanes::reach(c, code, o, guest[o], (value % 256) as u8);
+    let k1 = lanes::reach(c, code, o + 1, guest[o + 1], (value / 256 % 256) as u8);
+    let k2 = lanes::reach(c, code, o + 2, guest[o + 2], (value / 65536 % 256) as u8);
+    let k3 = lanes::reach(c, code, o + 3, guest[o + 3], (value / 16777216 % 256) as u8);
+    plain::store(m, o, lanes, value, k0, k1, k2, k3);
 }
 
 // ---- what a write to MSAC and to AFCTL does besides
@@ -79,11 +44,7 @@ fn reset(m: &mut [u8; 256])
 {
     let masks = map::all_resets();
     let defaults = map::all_defaults();
-    let mut i: usize = 0;
-    while i < 256 {
-        m[i] = bits::blend(masks[i], m[i], defaults[i]);
-        i += 1;
-    }
+    plain::reset(m, &masks, &defaults);
     m[map::AFCTL] = bits::blend(0x01, m[map::AFCTL], 0);
 }
 

@@ -6,24 +6,38 @@
 //! keeps its state in another way: one class and one value for each of the
 //! 2,048 bits, a flag for each write-once field, and the latch.
 //!
+//! Register sheets are from paper `02-change-requests.md`, W-201, alone.
+//!
 //! Binaries:
 //!
 //! - `second [player|console]`: session lines in, answers out;
+//! - `second sheet FILE`, `second show FILE`: a session on a register sheet's
+//!   device, and the sheet as a table;
 //! - `sessions SEED LINES [player|console]`: makes session text;
 //! - `trace`: turns a recorded port trace into console lines;
-//! - `compare`: runs another program on the same input and compares.
+//! - `compare`: runs another program on the same input and compares;
+//! - `compare-sheets`: the same for two programs that take register sheets.
 
 #![forbid(unsafe_code)]
 
+pub mod access;
+pub mod child;
+pub mod comparison;
+pub mod damage;
 pub mod difference;
 pub mod line;
+pub mod made_sheet;
 pub mod malform;
 pub mod map;
+pub mod plain_device;
 pub mod player;
 pub mod probe;
 pub mod refusal;
 pub mod rng;
 pub mod session;
+pub mod sheet;
+pub mod sheet_comparison;
+pub mod sheet_session;
 pub mod trace;
 pub mod twin;
 pub mod walk;

@@ -14,10 +14,12 @@ pub enum Mode {
     Player,
     /// The player's lines, and ports, claims, probe and walk.
     Console,
+    /// The player's lines, and the function reset of a sheet's device.
+    Sheet,
 }
 
 impl Mode {
-    /// The mode of that name.
+    /// The twin's mode of that name.
     pub fn named(name: &str) -> Option<Mode> {
         match name {
             "player" => Some(Mode::Player),
@@ -41,6 +43,8 @@ pub enum Command {
     Host { offset: u32, mask: u8, value: u8 },
     /// `P`: a platform reset.
     PlatformReset,
+    /// `Z`: the function reset of a sheet's device.
+    FunctionReset,
     /// `O pppp w vvvvvvvv`: a port write.
     PortWrite { port: u16, width: u32, value: u32 },
     /// `I pppp w`: a port read.
@@ -62,6 +66,7 @@ fn digits(letter: &[u8], mode: Mode) -> Option<&'static [usize]> {
         (b"R", _) => Some(&[2, 1]),
         (b"H", _) => Some(&[2, 2, 2]),
         (b"P", _) => Some(&[]),
+        (b"Z", Mode::Sheet) => Some(&[]),
         (b"O", Mode::Console) => Some(&[4, 1, 8]),
         (b"I", Mode::Console) => Some(&[4, 1]),
         (b"A", Mode::Console) => Some(&[16]),
@@ -135,6 +140,7 @@ fn command(letter: u8, numbers: &[u64]) -> Option<Command> {
             value: value as u8,
         },
         (b'P', &[]) => Command::PlatformReset,
+        (b'Z', &[]) => Command::FunctionReset,
         (b'O', &[port, width, value]) => Command::PortWrite {
             port: port as u16,
             width: width as u32,
@@ -280,5 +286,7 @@ fn perform(twin: &mut Twin, command: Command) -> Answer {
         Command::ClaimPort { port } => Answer::Claim(twin.claim_port(port)),
         Command::Probe { low, high } => probe::probe(low, high).into(),
         Command::Walk { wanted } => twin.walk(wanted).into(),
+        // The twin resets by a write to AFCTL alone, and its modes know no such line.
+        Command::FunctionReset => Answer::Refused(Refusal::Line),
     }
 }

@@ -2,7 +2,7 @@
 
 use std::io::{self, Read, Write};
 
-use crate::line::{answer, Mode, LONGEST_LINE};
+use crate::line::{answer, Answer, Mode, LONGEST_LINE};
 use crate::twin::Twin;
 
 /// Bytes asked for in one read.
@@ -12,19 +12,43 @@ const BLOCK: usize = 1 << 16;
 /// a line that was cut here is refused like the whole of it.
 const KEPT: usize = LONGEST_LINE + 1;
 
-/// A player in the middle of a session.
-pub struct Player {
+/// What the lines of a session are spoken to.
+pub trait Listener {
+    /// Carries out a line (without its LF) and answers it.
+    fn answer(&mut self, line: &[u8]) -> Answer;
+}
+
+/// The twin, and which lines it knows.
+pub struct ListeningTwin {
     mode: Mode,
     twin: Twin,
+}
+
+impl Listener for ListeningTwin {
+    fn answer(&mut self, line: &[u8]) -> Answer {
+        answer(&mut self.twin, line, self.mode)
+    }
+}
+
+/// A player in the middle of a session.
+pub struct Player<L> {
+    listener: L,
     unended: Vec<u8>,
 }
 
-impl Player {
+impl Player<ListeningTwin> {
     /// A player with a twin in its fresh state.
-    pub fn new(mode: Mode) -> Player {
+    pub fn new(mode: Mode) -> Player<ListeningTwin> {
+        let twin = Twin::fresh();
+        Player::with(ListeningTwin { mode, twin })
+    }
+}
+
+impl<L: Listener> Player<L> {
+    /// A player at the start of a session.
+    pub fn with(listener: L) -> Player<L> {
         Player {
-            mode,
-            twin: Twin::fresh(),
+            listener,
             unended: Vec::with_capacity(KEPT),
         }
     }
@@ -46,6 +70,35 @@ impl Player {
         }
     }
 
+    /// The answers to a whole session held in memory.
+    pub fn answers(mut self, session: &[u8]) -> Vec<u8> {
+        let mut answers = Vec::new();
+        self.feed(session, &mut answers);
+        self.finish(&mut answers);
+        answers
+    }
+
+    /// Plays a session from `input` to `output`. All answers that are due are
+    /// written and flushed before the next read.
+    pub fn play(mut self, input: &mut impl Read, output: &mut impl Write) -> io::Result<()> {
+        let mut block = vec![0; BLOCK];
+        let mut answers = Vec::new();
+        loop {
+            let length = read_some(input, &mut block)?;
+            if length == 0 {
+                self.finish(&mut answers);
+            } else {
+                self.feed(&block[..length], &mut answers);
+            }
+            output.write_all(&answers)?;
+            output.flush()?;
+            answers.clear();
+            if length == 0 {
+                return Ok(());
+            }
+        }
+    }
+
     /// Adds bytes to the unended line, as far as they matter.
     fn keep(&mut self, bytes: &[u8]) {
         let room = KEPT - self.unended.len();
@@ -54,41 +107,20 @@ impl Player {
 
     /// Answers the line that has just ended.
     fn answer_line(&mut self, answers: &mut Vec<u8>) {
-        let answer = answer(&mut self.twin, &self.unended, self.mode);
+        let answer = self.listener.answer(&self.unended);
         answers.extend_from_slice(format!("{answer}\n").as_bytes());
         self.unended.clear();
     }
 }
 
-/// The answers to a whole session held in memory.
+/// The answers of a fresh twin to a whole session held in memory.
 pub fn answers(session: &[u8], mode: Mode) -> Vec<u8> {
-    let mut player = Player::new(mode);
-    let mut answers = Vec::new();
-    player.feed(session, &mut answers);
-    player.finish(&mut answers);
-    answers
+    Player::new(mode).answers(session)
 }
 
-/// Plays a session from `input` to `output`. All answers that are due are
-/// written and flushed before the next read.
+/// Plays a session on a fresh twin from `input` to `output`.
 pub fn play(input: &mut impl Read, output: &mut impl Write, mode: Mode) -> io::Result<()> {
-    let mut player = Player::new(mode);
-    let mut block = vec![0; BLOCK];
-    let mut answers = Vec::new();
-    loop {
-        let length = read_some(input, &mut block)?;
-        if length == 0 {
-            player.finish(&mut answers);
-        } else {
-            player.feed(&block[..length], &mut answers);
-        }
-        output.write_all(&answers)?;
-        output.flush()?;
-        answers.clear();
-        if length == 0 {
-            return Ok(());
-        }
-    }
+    Player::new(mode).play(input, output)
 }
 
 /// Reads what there is, waiting for at least one byte or the end (0).

@@ -22,6 +22,12 @@ pub enum Refusal {
     NoRange,
     /// A session line of no known form.
     Line,
+    /// A sheet that is empty, cut short, or longer than its last body.
+    SheetLength,
+    /// A sheet's number of entries or an entry that may not stand there.
+    SheetContents,
+    /// A sheet's body with masks that don't go together.
+    SheetBody,
 }
 
 impl Refusal {
@@ -37,6 +43,9 @@ impl Refusal {
             Refusal::NotHost => 7,
             Refusal::NoRange => 8,
             Refusal::Line => 9,
+            Refusal::SheetLength => 12,
+            Refusal::SheetContents => 13,
+            Refusal::SheetBody => 14,
         }
     }
 }

@@ -592,7 +592,7 @@ fn latch(rng: &mut Rng) -> u32 {
 }
 
 /// A multiple of 4 below 256.
-fn aligned(rng: &mut Rng) -> u32 {
+pub(crate) fn aligned(rng: &mut Rng) -> u32 {
     rng.below(64) as u32 * 4
 }
 
@@ -604,15 +604,15 @@ fn host_bits(offset: u8) -> u8 {
         .fold(0, |bits, mask| bits | mask)
 }
 
-fn write(offset: u32, lanes: u32, value: u32) -> Vec<u8> {
+pub(crate) fn write(offset: u32, lanes: u32, value: u32) -> Vec<u8> {
     format!("W {offset:02X} {lanes:X} {value:08X}").into_bytes()
 }
 
-fn read(offset: u32, lanes: u32) -> Vec<u8> {
+pub(crate) fn read(offset: u32, lanes: u32) -> Vec<u8> {
     format!("R {offset:02X} {lanes:X}").into_bytes()
 }
 
-fn host(offset: u8, mask: u8, value: u8) -> Vec<u8> {
+pub(crate) fn host(offset: u8, mask: u8, value: u8) -> Vec<u8> {
     format!("H {offset:02X} {mask:02X} {value:02X}").into_bytes()
 }
 
@@ -636,7 +636,7 @@ fn probe(low: u32, high: u32) -> Vec<u8> {
     format!("S {low:08X} {high:08X}").into_bytes()
 }
 
-fn walk(wanted: u8) -> Vec<u8> {
+pub(crate) fn walk(wanted: u8) -> Vec<u8> {
     format!("K {wanted:02X}").into_bytes()
 }
 
@@ -649,16 +649,16 @@ pub fn write_session(out: &mut impl Write, seed: u64, lines: u64, mode: Mode) ->
         out.write_all(b"\n")?;
     }
     if lines > 0 {
-        out.write_all(&last_line(&mut session))?;
+        let line = session.next_line();
+        out.write_all(&last_line(&mut session.rng, line))?;
     }
     out.flush()
 }
 
 /// The last line, with its LF if it is to have one.
-fn last_line(session: &mut Session) -> Vec<u8> {
-    let mut line = session.next_line();
-    match session.rng.below(3) {
-        0 if !line.is_empty() => line.truncate(session.rng.index(line.len()) + 1),
+pub(crate) fn last_line(rng: &mut Rng, mut line: Vec<u8>) -> Vec<u8> {
+    match rng.below(3) {
+        0 if !line.is_empty() => line.truncate(rng.index(line.len()) + 1),
         1 if !line.is_empty() => {}
         _ => line.push(b'\n'),
     }

@@ -1,5 +1,6 @@
 //! The twin: a class and a value for each bit, the field flags, the latch.
 
+use crate::access::Access;
 use crate::map::{self, Class, Field, BITS, BYTES};
 use crate::refusal::Refusal;
 use crate::walk::{self, Walk};
@@ -90,39 +91,6 @@ impl Closed {
             Field::Sid2 => self.sid2 = 1,
             Field::SwsciBit15 => self.swsci_bit_15 = 1,
         }
-    }
-}
-
-/// An accepted dword access: an aligned offset and its lanes.
-#[derive(Clone, Copy, Debug)]
-struct Access {
-    offset: usize,
-    lanes: u32,
-}
-
-impl Access {
-    /// Accepts an access, or refuses it by offset and then by lanes.
-    fn checked(offset: u32, lanes: u32) -> Result<Access, Refusal> {
-        if offset > 255 || offset % 4 != 0 {
-            return Err(Refusal::Offset);
-        }
-        if lanes > 15 {
-            return Err(Refusal::Lanes);
-        }
-        Ok(Access {
-            offset: offset as usize,
-            lanes,
-        })
-    }
-
-    /// Whether the access enables byte `at`.
-    fn enables(self, at: usize) -> bool {
-        (self.offset..self.offset + 4).contains(&at) && self.lanes >> (at - self.offset) & 1 == 1
-    }
-
-    /// The places 0 to 31 in the dword whose bytes are enabled.
-    fn enabled_places(self) -> impl Iterator<Item = usize> {
-        (0..32).filter(move |place| self.enables(self.offset + place / 8))
     }
 }
 

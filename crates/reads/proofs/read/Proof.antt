@@ -17,18 +17,15 @@ returns-3 : tie.Need-returns-3
 unfolding readLanes
 returns-3 c = search tests
 
-spread-requires : tie.Need-spread-requires
-spread-requires c κs = search needs
-
 dword-at-requires : tie.Need-dword-at-requires
 dword-at-requires c κs = search needs
 
-blend32-requires : tie.Need-blend32-requires
-blend32-requires c κs = search needs
+driven-requires : tie.Need-driven-requires
+driven-requires c κs = search needs
 
 returns-4 : tie.Need-returns-4
 unfolding readLanes
-returns-4 c = search (tests, c .blend32 .ensures, c .before .dword-at .ensures, c .before .before .spread .ensures)
+returns-4 c = search (tests, c .driven .ensures, c .before .dword-at .ensures)
 
 pub read-spec : {M : Type 1} → statement M
 read-spec =
@@ -37,7 +34,6 @@ read-spec =
     returns
     returns-2
     returns-3
-    spread-requires
     dword-at-requires
-    blend32-requires
+    driven-requires
     returns-4)

@@ -13,11 +13,12 @@
 
 #![forbid(unsafe_code)]
 
-use std::io::{self, Read, Write};
+use std::fmt;
 use std::ops::Range;
-use std::process::{Child, ChildStdin, Command, ExitCode, ExitStatus, Stdio};
-use std::thread;
+use std::process::{Command, ExitCode};
 
+use second::child;
+use second::comparison::{end, seeds, Trouble};
 use second::difference::{difference, lines};
 use second::line::Mode;
 use second::player;
@@ -80,32 +81,21 @@ impl Arguments {
     }
 }
 
-/// A range of seeds, `A..B`, that isn't empty.
-fn seeds(text: &str) -> Option<Range<u64>> {
-    let (start, end) = text.split_once("..")?;
-    let seeds = start.parse().ok()?..end.parse().ok()?;
-    (!seeds.is_empty()).then_some(seeds)
-}
-
-/// What went wrong.
-enum Trouble {
-    /// The programs differ.
-    Difference(String),
-    /// The comparison couldn't be made.
-    Failed(String),
-}
-
-impl From<io::Error> for Trouble {
-    fn from(error: io::Error) -> Trouble {
-        Trouble::Failed(error.to_string())
-    }
-}
-
 /// How many lines agreed in how many sessions.
 #[derive(Default)]
 struct Agreed {
     lines: usize,
     sessions: usize,
+}
+
+impl fmt::Display for Agreed {
+    fn fmt(&self, f: &mut fmt::Formatter<'_>) -> fmt::Result {
+        write!(
+            f,
+            "{} lines agreed in {} sessions",
+            self.lines, self.sessions
+        )
+    }
 }
 
 /// A session, what it is called, and the size of the pieces it is fed in.
@@ -118,8 +108,10 @@ struct Input<'a> {
 /// Feeds one session to the program and to our player and compares.
 fn check(arguments: &Arguments, input: &Input, agreed: &mut Agreed) -> Result<(), Trouble> {
     let ours = player::answers(input.session, arguments.mode);
-    let (theirs, status) = run(&arguments.program, input.session, input.piece)?;
-    if let Some(difference) = difference(input.session, &ours, &theirs) {
+    let mut program = Command::new(&arguments.program);
+    let theirs = child::run(&mut program, input.session, input.piece)?;
+    let status = theirs.status;
+    if let Some(difference) = difference(input.session, &ours, &theirs.stdout) {
         let report = format!(
             "{}, {difference}\n  program ended with {status}",
             input.name
@@ -133,38 +125,6 @@ fn check(arguments: &Arguments, input: &Input, agreed: &mut Agreed) -> Result<()
     agreed.lines += lines(input.session).count();
     agreed.sessions += 1;
     Ok(())
-}
-
-/// The program's whole output for a session, and how it ended.
-fn run(program: &str, session: &[u8], piece: usize) -> Result<(Vec<u8>, ExitStatus), Trouble> {
-    let mut child = start(program)?;
-    let input = child.stdin.take().expect("standard input is piped");
-    let mut output = child.stdout.take().expect("standard output is piped");
-    let mut answers = Vec::new();
-    thread::scope(|scope| {
-        scope.spawn(|| feed(input, session, piece));
-        output.read_to_end(&mut answers)
-    })?;
-    Ok((answers, child.wait()?))
-}
-
-/// Starts the program with both ends piped.
-fn start(program: &str) -> Result<Child, Trouble> {
-    Command::new(program)
-        .stdin(Stdio::piped())
-        .stdout(Stdio::piped())
-        .spawn()
-        .map_err(|error| Trouble::Failed(format!("{program}: {error}")))
-}
-
-/// Writes the session in pieces and closes the pipe. A program that stops
-/// reading early shows in its answers, so that errors here don't matter.
-fn feed(mut input: ChildStdin, session: &[u8], piece: usize) {
-    for part in session.chunks(piece) {
-        if input.write_all(part).and_then(|()| input.flush()).is_err() {
-            return;
-        }
-    }
 }
 
 /// Compares the made session of each seed.
@@ -248,25 +208,6 @@ fn main() -> ExitCode {
         }
     };
     let mut agreed = Agreed::default();
-    match check_all(&arguments, &mut agreed) {
-        Ok(()) => {
-            println!(
-                "{} lines agreed in {} sessions",
-                agreed.lines, agreed.sessions
-            );
-            ExitCode::SUCCESS
-        }
-        Err(Trouble::Difference(report)) => {
-            println!("DIFFERENCE in {report}");
-            println!(
-                "{} lines agreed in {} sessions before",
-                agreed.lines, agreed.sessions
-            );
-            ExitCode::FAILURE
-        }
-        Err(Trouble::Failed(what)) => {
-            eprintln!("compare: {what}");
-            ExitCode::from(2)
-        }
-    }
+    let result = check_all(&arguments, &mut agreed);
+    end("compare", &agreed, result)
 }

@@ -1,8 +1,8 @@
 -- The mask where the lane is enabled.
 use Rattle.bits.proofs.Tests.{tests}
-use Rattle.lanes.specs.Lane.{ifEnabled}
-use Rattle.lanes.proofs.if_enabled.Statement.{statement}
-use Rattle.lanes.proofs.if_enabled.Tie as tie
+use Rattle.plain.specs.Bytes.{ifEnabled}
+use Rattle.plain.proofs.if_enabled.Statement.{statement}
+use Rattle.plain.proofs.if_enabled.Tie as tie
 
 returns : tie.Need-returns
 unfolding ifEnabled

@@ -1,9 +1,9 @@
 -- The mask of the enabled lanes.
 use mathlib.Core.Path.{refl}
-use Rattle.reads.specs.Shown.{spreadOf}
+use Rattle.plain.specs.Bytes.{spreadOf}
 use borrow.Author.Needs.{needs}
-use Rattle.reads.proofs.spread.Statement.{statement}
-use Rattle.reads.proofs.spread.Tie as tie
+use Rattle.plain.proofs.spread.Statement.{statement}
+use Rattle.plain.proofs.spread.Tie as tie
 
 mul-result : tie.Need-mul-result
 mul-result c = search needs

@@ -1,0 +1,72 @@
+-- A return to default, byte by byte.
+use mathlib.Core.Path.{_≡_}
+use Prim.Native.Nat.{_≤_, _-_}
+use native.Mathlib.Omega.{arith}
+use native.Mathlib.Numerals.{add-one}
+use native.Mathlib.Nat.{zero-add}
+use Rattle.bits.specs.Places.{mapN}
+use Rattle.bits.proofs.Places.{mapN-step}
+use Rattle.plain.specs.Bytes.{returnedByte, returnedOf}
+use borrow.Author.Needs.{needs}
+use Rattle.plain.proofs.reset.Statement.{statement}
+use Rattle.plain.proofs.reset.Tie as tie
+
+abbrev Inv-loop : tie.InvT-loop
+Inv-loop m₀ masks defaults i₀ m i = (i ≤ 256) × (m ≡ mapN i (returnedByte masks defaults) 0 m₀)
+
+abbrev μ-loop : tie.MeasureT-loop
+μ-loop m₀ masks defaults i₀ m i = 256 - i
+
+loop-holds : tie.Need-loop-holds Inv-loop μ-loop
+loop-holds c = search needs
+
+element-copy-out-blend : tie.Need-element-copy-out-blend Inv-loop μ-loop
+element-copy-out-blend c = search needs
+
+element-copy-out-blend-2 : tie.Need-element-copy-out-blend-2 Inv-loop μ-loop
+element-copy-out-blend-2 c = search needs
+
+element-copy-out-blend-3 : tie.Need-element-copy-out-blend-3 Inv-loop μ-loop
+element-copy-out-blend-3 c = search needs
+
+blend-requires : tie.Need-blend-requires Inv-loop μ-loop
+blend-requires c κs = search needs
+
+element-write-m : tie.Need-element-write-m Inv-loop μ-loop
+element-write-m c = search needs
+
+add-i : tie.Need-add-i Inv-loop μ-loop
+add-i c = search needs
+
+loop-less : tie.Need-loop-less Inv-loop μ-loop
+loop-less c = search needs
+
+loop-again : tie.Need-loop-again Inv-loop μ-loop
+loop-again c =
+    let d = c .before .before .before .before .before in
+    let i = d .loop .i in
+    let a = d .before .args in
+    (omega arith, rw (c .blend .ensures, add-one, d .loop .inv .1) (rw zero-add at (mapN-step (returnedByte (a .masks .now) (a .defaults .now)) i 0 (a .m .now))))
+
+returns : tie.Need-returns Inv-loop μ-loop
+unfolding returnedOf
+returns c =
+    let e : c .before .loop .i ≡ 256 = omega arith in
+    rw e at (c .before .loop .inv .1)
+
+pub reset-spec : {M : Type 1} → statement M
+reset-spec =
+    tie.close
+    (tie.spec
+    Inv-loop
+    μ-loop
+    loop-holds
+    element-copy-out-blend
+    element-copy-out-blend-2
+    element-copy-out-blend-3
+    blend-requires
+    element-write-m
+    add-i
+    loop-less
+    loop-again
+    returns)
