@@ -1,4 +1,4 @@
--- The paper's table 'Refusal numbers', and what an entry gives back beside a number.
+-- The paper's table 'Refusal numbers', those of the change requests, and what an entry gives back beside a number.
 use Prim.Native.Nat.{ℕ}
 
 abbrev pub LENGTH : ℕ
@@ -33,6 +33,17 @@ POINTER = 10
 
 abbrev pub ENDLESS : ℕ
 ENDLESS = 11
+
+-- a register sheet's
+
+abbrev pub SHEET-LENGTH : ℕ
+SHEET-LENGTH = 12
+
+abbrev pub SHEET-CONTENTS : ℕ
+SHEET-CONTENTS = 13
+
+abbrev pub SHEET-BODY : ℕ
+SHEET-BODY = 14
 
 -- ---- a number and a value
 

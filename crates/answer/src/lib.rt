@@ -21,3 +21,10 @@ pub const LINE: u32 = 9;
 pub const POINTER: u32 = 10;
 
 pub const ENDLESS: u32 = 11;
+
+// A register sheet's.
+pub const SHEET_LENGTH: u32 = 12;
+
+pub const SHEET_CONTENTS: u32 = 13;
+
+pub const SHEET_BODY: u32 = 14;

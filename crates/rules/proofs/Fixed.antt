@@ -19,7 +19,8 @@ use Rattle.rules.specs.History.{isReset, GuestWrite, none, at, guestWrit
 use Rattle.rules.specs.Past.{Given, nothing, given, orHeld}
 use Rattle.rules.proofs.Past.{history}
 use Rattle.rules.proofs.EachBit.{bit-after, bit-hosted, host-state}
-use Rattle.rules.proofs.Kept.{unstored, mask-off, host-kept}
+use Rattle.rules.proofs.Kept.{unstored, host-kept}
+use Rattle.rules.proofs.Plain.{no-gift}
 use Rattle.rules.proofs.Runs.{reset-forgets, performed, write-effect, port-effect, always}
 
 -- the bit that starts a function reset has default 0, and is not the host's
@@ -40,20 +41,6 @@ module _ (i j : ℕ) (h : i < 256) (k : j < 8) where
   abbrev B : State → ℕ
   B s = bit (byte s i) j
 
-  -- a bit that is not the host's is given nothing
-  no-gift : isHost (classOf i j) ≡ false → (o m v : ℕ) → gives i j (host-update o m v) ≡ nothing
-  unfolding gives
-  no-gift n o m v = go (eqb i o) (notHost o m) refl refl
-    where
-      go : (b c : Bool) → eqb i o ≡ b → notHost o m ≡ c → pick (both (not (either (ltb 255 o) c)) (both b (eqb (bit m j) 1))) (given (bit v j)) nothing ≡ nothing
-      go b true q e = rw (or-on (ltb 255 o))
-        where
-          or-on : (a : Bool) → either a true ≡ true
-          or-on true = refl
-          or-on false = refl
-      go false false q e = rw (both-off (not (either (ltb 255 o) false)))
-      go true false q e = rw (mask-off o m i j k n e (eqb-true i o q), both-off (not (either (ltb 255 o) false)))
-
   fresh-bit : B freshOf ≡ bit (defaultAt i) j
   unfolding freshOf
   fresh-bit = refl
@@ -68,7 +55,7 @@ module _ (i j : ℕ) (h : i < 256) (k : j < 8) where
     guest-bit (at o l v) s z = bit-after s o l v i j h k ∙ unstored s o l v i j fixed z
 
     host-bit : (s : State) (o m v : ℕ) → B (hostOf s o m v .state) ≡ orHeld (gives i j (host-update o m v)) (B s)
-    unfolding gives hostBit
+    unfolding gives hostBit notHost
     host-bit s o m v = rw (host-state s o m v) (go (not (either (ltb 255 o) (notHost o m))))
       where
         chosen : (x : Bool) → pick x (bit v j) (B s) ≡ orHeld (pick x (given (bit v j)) nothing) (B s)
@@ -94,7 +81,7 @@ module _ (i j : ℕ) (h : i < 256) (k : j < 8) where
     ungiven (write o l v) t = refl
     ungiven (port-read p w) t = refl
     ungiven (port-write p w v) t = refl
-    ungiven (host-update o m v) t = no-gift (start-is i j h k t .1) o m v
+    ungiven (host-update o m v) t = no-gift (λ (i j : ℕ). isHost (classOf i j)) i j k (start-is i j h k t .1) o m v
     ungiven platform-reset t = refl
 
     keeps : (e : Event) (s : State) → isReset e ≡ false → Z s → Z (happens e s .state)

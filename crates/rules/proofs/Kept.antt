@@ -6,7 +6,6 @@ use lib.Dec.{T, eqb}
 use borrow.Author.Tests.{eqb-true}
 use Rattle.bits.specs.Bits.{bit}
 use Rattle.bits.specs.Choice.{pick, both}
-use Rattle.bits.proofs.Below.{any-none}
 use Rattle.map.specs.Registers.{MSAC}
 use Rattle.map.specs.Class.{Class, readOnly, host, guest, guestF, once, sizeCode, aperture, power, computed, resetStart, stores, hasF, isHost, sameClass}
 use Rattle.map.specs.Map.{classOf}
@@ -15,6 +14,7 @@ use Rattle.rules.specs.declared.Closed.{Closed}
 use Rattle.rules.specs.Access.{byte, enabled, byteFor}
 use Rattle.rules.specs.Guest.{sizeOf, takenBy, takes, store, clear, reset, starts, storedBit, sizeAfter, bitAfter}
 use Rattle.rules.specs.Host.{notHost, hostBit}
+use Rattle.rules.proofs.Plain as P
 
 -- ---- a guest write
 
@@ -98,14 +98,10 @@ unstored s o l v i j e z = ap (reset (starts o l v) i j) kept ∙ go (starts o l
 
 -- ---- a host update
 
-unmasked : (a b : Bool) → both a (not b) ≡ false → b ≡ false → a ≡ false
-unmasked true b e n = rw n at e
-unmasked false b e n = refl
-
 -- an accepted mask has no bit that is not the host's
-pub mask-off : (o m i j : ℕ) → j < 8 → isHost (classOf i j) ≡ false → notHost o m ≡ false → i ≡ o → eqb (bit m j) 1 ≡ false
+mask-off : (o m i j : ℕ) → j < 8 → isHost (classOf i j) ≡ false → notHost o m ≡ false → i ≡ o → eqb (bit m j) 1 ≡ false
 unfolding notHost
-mask-off o m i j k n e q = unmasked (eqb (bit m j) 1) (isHost (classOf o j)) (any-none 8 (λ (j : ℕ). both (eqb (bit m j) 1) (not (isHost (classOf o j)))) e j k) (rw q at n)
+mask-off o m i j k n e q = P.mask-off (λ (i j : ℕ). isHost (classOf i j)) o m i j k n e q
 
 -- a bit that is not the host's stays
 pub host-kept : (s : State) (o m v i j : ℕ) → j < 8 → isHost (classOf i j) ≡ false → notHost o m ≡ false → hostBit s o m v i j ≡ bit (byte s i) j

@@ -2,6 +2,7 @@ pub mod Access
 pub mod EachBit
 pub mod NoLanes
 pub mod One
+pub mod Plain
 pub mod Kept
 pub mod Past
 pub mod Runs

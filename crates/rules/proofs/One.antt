@@ -30,26 +30,26 @@ use Rattle.rules.specs.Answers.{readSays, writeSays, hostSays, portReadS
 
 -- ---- what is said is heard again
 
-abbrev readHears : Reply → ReadAnswer
+abbrev pub readHears : Reply → ReadAnswer
 readHears r = if r .number is 0 then R.Value (r .value) else if r .number is OFFSET then R.Offset else R.Lanes
 
-read-heard : (a : ReadAnswer) → readHears (readSays a) ≡ a
+pub read-heard : (a : ReadAnswer) → readHears (readSays a) ≡ a
 read-heard (R.Value v) = refl
 read-heard R.Offset = refl
 read-heard R.Lanes = refl
 
-abbrev writeHears : Reply → WriteAnswer
+abbrev pub writeHears : Reply → WriteAnswer
 writeHears r = if r .number is 0 then W.Done else if r .number is OFFSET then W.Offset else W.Lanes
 
-write-heard : (a : WriteAnswer) → writeHears (writeSays a) ≡ a
+pub write-heard : (a : WriteAnswer) → writeHears (writeSays a) ≡ a
 write-heard W.Done = refl
 write-heard W.Offset = refl
 write-heard W.Lanes = refl
 
-abbrev hostHears : Reply → HostAnswer
+abbrev pub hostHears : Reply → HostAnswer
 hostHears r = if r .number is 0 then H.Done else if r .number is OFFSET then H.Offset else H.NotHost
 
-host-heard : (a : HostAnswer) → hostHears (hostSays a) ≡ a
+pub host-heard : (a : HostAnswer) → hostHears (hostSays a) ≡ a
 host-heard H.Done = refl
 host-heard H.Offset = refl
 host-heard H.NotHost = refl

@@ -16,6 +16,12 @@ later-wins : (a b : Given) (x : ℕ) → orHeld a (orHeld b x) ≡ orHeld (a orE
 later-wins nothing b x = refl
 later-wins (given y) b x = refl
 
+-- where no event gives anything
+pub none-given : {E : Type 0} (gives : E → Given) → ((e : E) → gives e ≡ nothing) → (es : List E) → lastGiven gives es ≡ nothing
+unfolding lastGiven
+none-given gives n [] = refl
+none-given gives n (e ∷ es) = rw (none-given gives n es, n e)
+
 module _ {E : Type 0} (isReset : E → Bool) where
   since-all : (es : List E) → anyReset isReset es ≡ false → since isReset es ≡ es
   unfolding since

@@ -4,13 +4,13 @@ use mathlib.Core.Bool.{Bool, true, false, not}
 use Prim.Native.Nat.{ℕ, _-_}
 use Rattle.bits.specs.Bits.{bit}
 use Rattle.bits.specs.Choice.{if_then_else_, _and_, _or_, _is_, _<?_}
-use Rattle.map.specs.Class.{Field}
-use Rattle.map.specs.Map.{defaultAt}
+use Rattle.map.specs.Class.{Field, isHost}
+use Rattle.map.specs.Map.{classOf, defaultAt}
 use Rattle.rules.specs.Past as P
-use Rattle.rules.specs.Past.{Given, nothing, given, orHeld, lastGiven}
+use Rattle.rules.specs.Past.{Given, nothing, orHeld, lastGiven}
+use Rattle.rules.specs.Plain.{updateGives}
 use Rattle.rules.specs.Access.{enabled, byteFor, badOffset, badLanes}
 use Rattle.rules.specs.Guest.{touches}
-use Rattle.rules.specs.Host.{notHost}
 use Rattle.rules.specs.Ports.{DATA, badWidth, atLatch, notOurs, otherFunction, latchOf, dwordOf, portLanes, placed}
 use Rattle.rules.specs.Events.{Event, read, write, port-read, port-write, host-update, platform-reset}
 
@@ -84,7 +84,7 @@ gives i j (read o l) = nothing
 gives i j (write o l v) = nothing
 gives i j (port-read p w) = nothing
 gives i j (port-write p w v) = nothing
-gives i j (host-update o m v) = if not (255 <? o or notHost o m) and i is o and bit m j is 1 then given (bit v j) else nothing
+gives i j (host-update o m v) = updateGives (λ (i j : ℕ). isHost (classOf i j)) o m v i j
 gives i j platform-reset = nothing
 
 -- the last of them that does

@@ -5,9 +5,10 @@ use mathlib.Core.Bool.{Bool, not}
 use Prim.Native.Nat.{ℕ, _+_, _/_, _%_}
 use lib.ListN.{getD}
 use Rattle.bits.specs.Bits.{bit, numberOf}
-use Rattle.bits.specs.Choice.{if_then_else_, _and_, _is_, anyBelow}
+use Rattle.bits.specs.Choice.{if_then_else_, _and_, _or_, _is_, _<?_, anyBelow}
 use Rattle.answer.specs.Refusals.{Reply, ok, no, OFFSET, LANES}
 use Rattle.rules.specs.Access.{enabled, byteFor, badOffset, badLanes}
+use Rattle.rules.specs.Past.{Given, nothing, given}
 
 -- bit j of byte i
 abbrev pub Bits : Type 0
@@ -60,6 +61,10 @@ outside h o m = anyBelow 8 (λ (j : ℕ). bit m j is 1 and not (h o j))
 -- masked bits take the value's bits
 abbrev pub updatedBit : Bits → ℕ → ℕ → ℕ → Bits
 updatedBit b o m v i j = if i is o and bit m j is 1 then bit v j else b i j
+
+-- what an accepted host update gives bit j of byte i, if it masks it
+abbrev pub updateGives : Mask → ℕ → ℕ → ℕ → ℕ → ℕ → Given
+updateGives h o m v i j = if not (255 <? o or outside h o m) and i is o and bit m j is 1 then given (bit v j) else nothing
 
 -- ---- a function reset
 

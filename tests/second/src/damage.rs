@@ -10,13 +10,16 @@ use crate::map::BYTES;
 use crate::rng::Rng;
 use crate::sheet::{lay_out, Register, Sheet, ENTRY, LONGEST, MOST_BYTES, MOST_ENTRIES, PARTS};
 
-/// The refusal that a damage is to meet.
+/// What a made sheet is to be, good or damaged.
 #[derive(Clone, Copy, Debug, PartialEq, Eq)]
-pub struct Intent {
-    /// The paper's number.
-    pub number: u32,
-    /// The entry that the fault is in, from 1, if it is in one.
-    pub entry: Option<usize>,
+pub enum Meant {
+    /// Accepted.
+    Good,
+    /// Refused with the paper's number, and for a fault in an entry or in its
+    /// body with that entry, from 1.
+    Refused { number: u32, entry: Option<usize> },
+    /// As chance has it.
+    Chance,
 }
 
 /// Bytes that may be no sheet.
@@ -24,8 +27,8 @@ pub struct Intent {
 pub struct Damaged {
     /// The bytes.
     pub bytes: Vec<u8>,
-    /// The refusal that is meant; none if chance decides.
-    pub intent: Option<Intent>,
+    /// What is meant by them.
+    pub meant: Meant,
 }
 
 /// A kind of damage by its name.
@@ -33,9 +36,17 @@ pub type Kind = (&'static str, fn(&mut Rng) -> Damaged);
 
 /// All kinds of damage, by what they are done to.
 pub fn kinds() -> impl Iterator<Item = &'static Kind> {
-    [FIRST_BYTE, CONTENTS, BODY_STARTS, LENGTHS, MASKS, TWO_FAULTS, CHANCE]
-        .into_iter()
-        .flatten()
+    [
+        FIRST_BYTE,
+        CONTENTS,
+        BODY_STARTS,
+        LENGTHS,
+        MASKS,
+        TWO_FAULTS,
+        CHANCE,
+    ]
+    .into_iter()
+    .flatten()
 }
 
 const FIRST_BYTE: &[Kind] = &[
@@ -57,7 +68,9 @@ const FIRST_BYTE: &[Kind] = &[
 const CONTENTS: &[Kind] = &[
     ("a length of 0, otherwise good", |rng| with_length(rng, 0)),
     ("a length of 9, otherwise good", |rng| with_length(rng, 9)),
-    ("a length of 255, otherwise good", |rng| with_length(rng, 255)),
+    ("a length of 255, otherwise good", |rng| {
+        with_length(rng, 255)
+    }),
     ("any length above 8, otherwise good", |rng| {
         let length = between(rng, MOST_BYTES + 1, 255);
         with_length(rng, length)
@@ -93,24 +106,34 @@ const BODY_STARTS: &[Kind] = &[
 ];
 
 const LENGTHS: &[Kind] = &[
-    ("nothing but the number of entries", |rng| cut(rng, |_, _| 1)),
+    ("nothing but the number of entries", |rng| {
+        cut(rng, |_, _| 1)
+    }),
     ("contents cut anywhere", |rng| {
         cut(rng, |rng, sheet| between(rng, 1, contents(sheet) - 1))
     }),
-    ("contents cut by one byte", |rng| cut(rng, |_, sheet| contents(sheet) - 1)),
+    ("contents cut by one byte", |rng| {
+        cut(rng, |_, sheet| contents(sheet) - 1)
+    }),
     ("no bodies", |rng| cut(rng, |_, sheet| contents(sheet))),
     ("the last body left out", |rng| {
         cut(rng, |_, sheet| body(sheet, sheet.registers.len() - 1))
     }),
     ("bodies cut at a body's start", |rng| {
-        cut(rng, |rng, sheet| body(sheet, rng.index(sheet.registers.len())))
+        cut(rng, |rng, sheet| {
+            body(sheet, rng.index(sheet.registers.len()))
+        })
     }),
     ("bodies cut anywhere", |rng| {
-        cut(rng, |rng, sheet| between(rng, contents(sheet), size(sheet) - 1))
+        cut(rng, |rng, sheet| {
+            between(rng, contents(sheet), size(sheet) - 1)
+        })
     }),
     ("one byte short", |rng| cut(rng, |_, sheet| size(sheet) - 1)),
     ("one byte long", |rng| longer(rng, |_, size| size + 1)),
-    ("some bytes long", |rng| longer(rng, |rng, size| between(rng, size + 1, LONGEST))),
+    ("some bytes long", |rng| {
+        longer(rng, |rng, size| between(rng, size + 1, LONGEST))
+    }),
     ("the longest sheet and one byte", |rng| {
         let mut bytes = lay_out(&made(rng, Shape::Longest).registers);
         bytes.push(rng.byte());
@@ -121,18 +144,30 @@ const LENGTHS: &[Kind] = &[
         bytes.pop();
         length_fault(bytes)
     }),
-    ("longer than any sheet", |rng| longer(rng, |rng, _| between(rng, LONGEST + 1, 5_000))),
+    ("longer than any sheet", |rng| {
+        longer(rng, |rng, _| between(rng, LONGEST + 1, 5_000))
+    }),
     ("1281 zeros", |_| count_fault(vec![0; LONGEST])),
     ("1282 zeros", |_| length_fault(vec![0; LONGEST + 1])),
     ("2000 zeros", |_| length_fault(vec![0; 2_000])),
 ];
 
 const MASKS: &[Kind] = &[
-    ("a shared bit, first register, first byte", |rng| bad_mask(rng, share, first, first)),
-    ("a shared bit, first register, last byte", |rng| bad_mask(rng, share, first, last)),
-    ("a shared bit, last register, first byte", |rng| bad_mask(rng, share, last, first)),
-    ("a shared bit, last register, last byte", |rng| bad_mask(rng, share, last, last)),
-    ("a shared bit anywhere", |rng| bad_mask(rng, share, anywhere, anywhere)),
+    ("a shared bit, first register, first byte", |rng| {
+        bad_mask(rng, share, first, first)
+    }),
+    ("a shared bit, first register, last byte", |rng| {
+        bad_mask(rng, share, first, last)
+    }),
+    ("a shared bit, last register, first byte", |rng| {
+        bad_mask(rng, share, last, first)
+    }),
+    ("a shared bit, last register, last byte", |rng| {
+        bad_mask(rng, share, last, last)
+    }),
+    ("a shared bit anywhere", |rng| {
+        bad_mask(rng, share, anywhere, anywhere)
+    }),
     ("a reset bit outside, first register, first byte", |rng| {
         bad_mask(rng, reset_outside, first, first)
     }),
@@ -145,8 +180,12 @@ const MASKS: &[Kind] = &[
     ("a reset bit outside, last register, last byte", |rng| {
         bad_mask(rng, reset_outside, last, last)
     }),
-    ("a reset bit outside anywhere", |rng| bad_mask(rng, reset_outside, anywhere, anywhere)),
-    ("a reset bit in the host mask", |rng| bad_mask(rng, reset_host, anywhere, anywhere)),
+    ("a reset bit outside anywhere", |rng| {
+        bad_mask(rng, reset_outside, anywhere, anywhere)
+    }),
+    ("a reset bit in the host mask", |rng| {
+        bad_mask(rng, reset_host, anywhere, anywhere)
+    }),
 ];
 
 const TWO_FAULTS: &[Kind] = &[
@@ -183,7 +222,9 @@ const TWO_FAULTS: &[Kind] = &[
 ];
 
 const CHANCE: &[Kind] = &[
-    ("a byte of the contents changed", |rng| changed(rng, 1, contents)),
+    ("a byte of the contents changed", |rng| {
+        changed(rng, 1, contents)
+    }),
     ("a byte changed", |rng| changed(rng, 1, size)),
     ("a few bytes changed", |rng| {
         let times = between(rng, 2, 6);
@@ -203,8 +244,8 @@ const CHANCE: &[Kind] = &[
 // ---- what is meant
 
 fn refused(bytes: Vec<u8>, number: u32, entry: Option<usize>) -> Damaged {
-    let intent = Some(Intent { number, entry });
-    Damaged { bytes, intent }
+    let meant = Meant::Refused { number, entry };
+    Damaged { bytes, meant }
 }
 
 fn length_fault(bytes: Vec<u8>) -> Damaged {
@@ -228,7 +269,7 @@ fn body_fault(bytes: Vec<u8>, index: usize) -> Damaged {
 fn by_chance(bytes: Vec<u8>) -> Damaged {
     Damaged {
         bytes,
-        intent: None,
+        meant: Meant::Chance,
     }
 }
 
@@ -372,7 +413,9 @@ fn exchanged_registers(rng: &mut Rng) -> Damaged {
 
 /// A last register that passes byte 255 by so many bytes.
 fn past_the_end(rng: &mut Rng, by: usize) -> Damaged {
-    let sheet = such(rng, |sheet| sheet.registers.last().map_or(0, Register::bytes) > by);
+    let sheet = such(rng, |sheet| {
+        sheet.registers.last().map_or(0, Register::bytes) > by
+    });
     let mut registers = sheet.registers;
     let index = registers.len() - 1;
     registers[index].at = BYTES + by - registers[index].bytes();
@@ -534,7 +577,7 @@ fn reset_host(register: &mut Register, byte: usize, bit: u8) {
     register.host[byte] |= bit;
 }
 
-/// Spoils one bit of the register of that index.
+/// Spoils the masks of a register in any bit of that byte.
 fn spoil_bit(rng: &mut Rng, register: &mut Register, spoil: Spoil, byte: Place) {
     let byte = byte(rng, register.bytes());
     spoil(register, byte, 1 << rng.below(8));

@@ -38,6 +38,20 @@ impl Shape {
         Shape::Longest,
     ];
 
+    /// The shape in words.
+    pub fn name(self) -> &'static str {
+        match self {
+            Shape::Any => "good, of any shape",
+            Shape::Few => "good, a few registers",
+            Shape::One => "good, one register",
+            Shape::Bytes => "good, registers of one byte",
+            Shape::Most => "good, 64 registers",
+            Shape::Full => "good, every byte listed",
+            Shape::Eights => "good, every byte listed by eights",
+            Shape::Longest => "good, of 1281 bytes",
+        }
+    }
+
     /// How many registers, and how many bytes they list together.
     fn sizes(self, rng: &mut Rng) -> (usize, usize) {
         let fewest_of_eight = BYTES / MOST_BYTES;

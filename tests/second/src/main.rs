@@ -62,10 +62,7 @@ fn with_sheet(file: &str, go_on: impl FnOnce(&Sheet) -> io::Result<()>) -> io::R
 fn bytes(file: &str) -> io::Result<Vec<u8>> {
     let mut bytes = Vec::new();
     File::open(file)
-        .and_then(|open| {
-            open.take(sheet::LONGEST as u64 + 1)
-                .read_to_end(&mut bytes)
-        })
+        .and_then(|open| open.take(sheet::LONGEST as u64 + 1).read_to_end(&mut bytes))
         .map_err(|error| io::Error::new(error.kind(), format!("{file}: {error}")))?;
     Ok(bytes)
 }

@@ -113,9 +113,17 @@ impl PlainDevice {
     /// Carries out a command.
     fn perform(&mut self, command: Command) -> Answer {
         match command {
-            Command::Write { offset, lanes, value } => self.guest_write(offset, lanes, value).into(),
+            Command::Write {
+                offset,
+                lanes,
+                value,
+            } => self.guest_write(offset, lanes, value).into(),
             Command::Read { offset, lanes } => self.guest_read(offset, lanes).into(),
-            Command::Host { offset, mask, value } => self.host_update(offset, mask, value).into(),
+            Command::Host {
+                offset,
+                mask,
+                value,
+            } => self.host_update(offset, mask, value).into(),
             Command::PlatformReset => {
                 self.platform_reset();
                 Answer::Done

@@ -46,6 +46,11 @@ impl Register {
         self.at + self.bytes()
     }
 
+    /// The parts of its body, in the sheet's order.
+    fn parts(&self) -> [&[u8]; PARTS] {
+        [&self.default, &self.guest, &self.host, &self.reset]
+    }
+
     /// The register at that offset with a body of its parts.
     fn of_body(at: usize, body: &[u8]) -> Register {
         let length = body.len() / PARTS;
@@ -62,10 +67,18 @@ impl Register {
     /// What is wrong with the masks, if anything.
     fn mask_fault(&self) -> Option<BodyFault> {
         let (guest, host, reset) = (&self.guest, &self.host, &self.reset);
-        if guest.iter().zip(host).any(|(guest, host)| guest & host != 0) {
+        if guest
+            .iter()
+            .zip(host)
+            .any(|(guest, host)| guest & host != 0)
+        {
             return Some(BodyFault::Shared);
         }
-        if reset.iter().zip(guest).any(|(reset, guest)| reset & !guest != 0) {
+        if reset
+            .iter()
+            .zip(guest)
+            .any(|(reset, guest)| reset & !guest != 0)
+        {
             return Some(BodyFault::Reset);
         }
         None
@@ -219,8 +232,8 @@ fn read_contents(contents: &[u8]) -> Result<Vec<Listed>, Fault> {
     let mut free = 0;
     let mut start = 1 + contents.len();
     for (index, entry) in contents.chunks(ENTRY).enumerate() {
-        let register = read_entry(entry, free, start)
-            .map_err(|fault| Fault::Entry(index + 1, fault))?;
+        let register =
+            read_entry(entry, free, start).map_err(|fault| Fault::Entry(index + 1, fault))?;
         free = register.end();
         start += register.body();
         listed.push(register);
@@ -274,9 +287,7 @@ pub fn lay_out(registers: &[Register]) -> Vec<u8> {
         let start = (first + bodies.len()) as u16;
         contents.extend([register.at as u8, register.bytes() as u8]);
         contents.extend(start.to_le_bytes());
-        for part in [&register.default, &register.guest, &register.host, &register.reset] {
-            bodies.extend(part);
-        }
+        bodies.extend(register.parts().concat());
     }
     [contents, bodies].concat()
 }
@@ -284,11 +295,11 @@ pub fn lay_out(registers: &[Register]) -> Vec<u8> {
 impl Sheet {
     /// The sheet as a table, one line a register.
     pub fn table(&self) -> String {
-        let head = row("At", "Bytes", ["Default", "Guest", "Host", "Reset"].map(String::from));
+        let parts = ["Default", "Guest", "Host", "Reset"];
+        let head = row("At", "Bytes", parts.map(String::from));
         let rows = self.registers.iter().map(|register| {
-            let Register { default, guest, host, reset, .. } = register;
-            let parts = [default, guest, host, reset].map(|part| number(part));
-            row(&format!("{:02X}", register.at), &register.bytes().to_string(), parts)
+            let (at, bytes) = (format!("{:02X}", register.at), register.bytes().to_string());
+            row(&at, &bytes, register.parts().map(number))
         });
         std::iter::once(head).chain(rows).collect()
     }
@@ -302,5 +313,8 @@ fn row(at: &str, bytes: &str, parts: [String; PARTS]) -> String {
 
 /// A part of a body as one number: its last byte is the highest.
 fn number(part: &[u8]) -> String {
-    part.iter().rev().map(|byte| format!("{byte:02X}")).collect()
+    part.iter()
+        .rev()
+        .map(|byte| format!("{byte:02X}"))
+        .collect()
 }

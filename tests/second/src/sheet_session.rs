@@ -1,8 +1,9 @@
 //! Made sessions on the device of a register sheet.
 //!
-//! As in [`crate::session`] a session is a row of scenes, with platform resets
-//! and spoiled lines in between. Accesses go mostly to the sheet's registers
-//! and host updates mostly to its host bits.
+//! A session opens by turning every bit that can be turned and by both resets,
+//! so that each mask shows in each bit. As in [`crate::session`] scenes follow,
+//! with platform resets and spoiled lines in between. Accesses go mostly to the
+//! sheet's registers and host updates mostly to its host bits.
 
 use std::collections::VecDeque;
 
@@ -25,18 +26,18 @@ const NEAR_FUNCTION_RESET: &[&[u8]] = &[
 struct SheetSession<'a> {
     rng: &'a mut Rng,
     sheet: &'a Sheet,
+    opening: VecDeque<Vec<u8>>,
     lines: VecDeque<Vec<u8>>,
 }
 
-/// A session of so many lines in memory. It starts by reading everything,
-/// and its last line may lack its LF.
+/// A session of so many lines in memory. Its last line may lack its LF.
 pub fn text(rng: &mut Rng, sheet: &Sheet, lines: u64) -> Vec<u8> {
     let mut session = SheetSession {
         rng,
         sheet,
+        opening: opening(sheet).into(),
         lines: VecDeque::new(),
     };
-    session.read_everything();
     let mut text = Vec::new();
     for _ in 1..lines {
         text.extend(session.next_line());
@@ -52,6 +53,9 @@ pub fn text(rng: &mut Rng, sheet: &Sheet, lines: u64) -> Vec<u8> {
 impl SheetSession<'_> {
     /// The next line, without its LF.
     fn next_line(&mut self) -> Vec<u8> {
+        if let Some(line) = self.opening.pop_front() {
+            return line;
+        }
         if self.rng.one_in(LINES_TO_A_PLATFORM_RESET) {
             return b"P".to_vec();
         }
@@ -118,16 +122,6 @@ impl SheetSession<'_> {
             self.rng.below(16) as u32
         }
     }
-
-    /// The sheet's host bits in a byte.
-    fn host_bits(&self, at: u8) -> u8 {
-        let at = usize::from(at);
-        self.sheet
-            .registers
-            .iter()
-            .find(|register| (register.at..register.end()).contains(&at))
-            .map_or(0, |register| register.host[at - register.at])
-    }
 }
 
 /// Scenes.
@@ -168,7 +162,7 @@ impl SheetSession<'_> {
     /// A host update, mostly of host bits alone.
     fn push_host(&mut self, at: u8) {
         let (some, one) = (self.rng.byte(), 1 << self.rng.below(8));
-        let bits = self.host_bits(at);
+        let bits = byte_of(self.sheet, at, |register| &register.host);
         let mask = match self.rng.below(10) {
             0 => 0,
             1 => some,
@@ -223,8 +217,44 @@ impl SheetSession<'_> {
     }
 
     fn read_everything(&mut self) {
-        for offset in (0..256).step_by(4) {
-            self.lines.push_back(read(offset, 0xF));
-        }
+        self.lines.extend(reads_of_everything());
     }
+}
+
+/// A byte of one part of the sheet's bodies, 0 where nothing is listed.
+fn byte_of(sheet: &Sheet, at: u8, part: fn(&Register) -> &[u8]) -> u8 {
+    let at = usize::from(at);
+    sheet
+        .registers
+        .iter()
+        .find(|register| (register.at..register.end()).contains(&at))
+        .map_or(0, |register| part(register)[at - register.at])
+}
+
+fn reads_of_everything() -> impl Iterator<Item = Vec<u8>> {
+    (0..=255).step_by(4).map(|offset| read(offset, 0xF))
+}
+
+/// Turns all bits of the guest and then all of the host, resets the function
+/// and then the platform, and reads everything at first and after each.
+fn opening(sheet: &Sheet) -> Vec<Vec<u8>> {
+    let turned = |at: u8| !byte_of(sheet, at, |register| &register.default);
+    let dword = |at: u8| u32::from_le_bytes([0, 1, 2, 3].map(|lane| turned(at + lane)));
+    let writes = (0..=255)
+        .step_by(4)
+        .map(|at| write(u32::from(at), 0xF, dword(at)));
+    let updates = (0..=255)
+        .map(|at| (at, byte_of(sheet, at, |register| &register.host)))
+        .filter(|(_, mask)| *mask != 0)
+        .map(|(at, mask)| host(at, mask, turned(at)));
+    reads_of_everything()
+        .chain(writes)
+        .chain(reads_of_everything())
+        .chain(updates)
+        .chain(reads_of_everything())
+        .chain([b"Z".to_vec()])
+        .chain(reads_of_everything())
+        .chain([b"P".to_vec()])
+        .chain(reads_of_everything())
+        .collect()
 }

@@ -1,0 +1,55 @@
+-- The entries a byte at a time come to the plain rule, for any tables and any 256 bytes.
+use mathlib.Core.Path.{_≡_, refl, sym, ap, _∙_}
+use mathlib.Core.List.{List}
+use mathlib.Core.Bool.{Bool, true, false}
+use Prim.Native.Nat.{ℕ, _+_, _/_, _%_, _^_, _<_}
+use native.Mathlib.Omega.{arith}
+use native.Mathlib.Nat.{add-zero}
+use lib.ListN.{length, getD}
+use Rattle.bits.specs.Bits.{bit, numberOf}
+use Rattle.bits.specs.Choice.{pick}
+use Rattle.bits.proofs.Laws.{bit-number, bit<2, little-bits, joined-little}
+use Rattle.answer.specs.Refusals.{ok, no, OFFSET, LANES}
+use Rattle.rules.specs.Access.{badOffset, badLanes}
+use Rattle.rules.specs.Plain.{held, under, shownValue, writtenBit}
+use Rattle.rules.proofs.Access.{good-offset}
+use Rattle.plain.specs.Bytes.{drivenOf, storedOf}
+use Rattle.plain.proofs.Bridge.{driven-is, reply-is, stored-is, returned-is}
+use Rattle.updates.specs.Update.{Lent, lent, updateBytes}
+use Rattle.updates.proofs.Bridge.{update-by}
+use Rattle.plain.specs.Bytes.{returnedOf}
+use Rattle.device.specs.Device.{made, readOf, writeOf, hostOf, functionResetOf}
+use Rattle.device.specs.Bytes.{dwordOf, readBytes, storedBytes, writeBytes}
+
+module _ (m : List ℕ) (b : (i : ℕ) → getD m i 0 < 2 ^ 8) where
+  dword-bit : (o n : ℕ) → n < 32 → bit (dwordOf m o) n ≡ held m (o + n / 8) (n % 8)
+  unfolding dwordOf
+  dword-bit o n k =
+      let whole : dwordOf m o ≡ numberOf 32 (λ (n : ℕ). bit (getD m (o + n / 8) 0) (n % 8)) = rw add-zero at (joined-little (λ (k : ℕ). getD m (o + k) 0)) ∙ sym (little-bits 4 (λ (k : ℕ). getD m (o + k) 0) (λ k. b (o + k))) in
+      ap (λ (x : ℕ). bit x n) whole ∙ bit-number 32 (λ (n : ℕ). bit (getD m (o + n / 8) 0) (n % 8)) (λ n. bit<2 (getD m (o + n / 8) 0) (n % 8)) n k
+
+  pub read-is : (o l : ℕ) → readBytes m o l ≡ readOf m o l
+  unfolding readBytes readOf
+  read-is o l = reply-is o l (drivenOf l (dwordOf m o)) (shownValue (held m) o l) (λ h k. driven-is (held m) o l (dwordOf m o) k (dword-bit o))
+
+  module _ (n : length m ≡ 256) where
+    stored-list : (guests : List ℕ) (o l v : ℕ) → o + 3 < 256 → storedBytes guests m o l v ≡ made (writtenBit (under guests) (held m) o l v)
+    unfolding storedBytes
+    stored-list guests o l v h = rw add-zero at (stored-is m n b o l v h (under guests) (λ (t : ℕ). getD guests (o + t) 0) (λ t j p q. refl))
+
+    pub write-is : (guests : List ℕ) (o l v : ℕ) → writeBytes guests m o l v ≡ writeOf guests m o l v
+    unfolding writeBytes writeOf
+    write-is guests o l v = go (badOffset o) (badLanes l) refl
+      where
+        go : (x y : Bool) → badOffset o ≡ x → pick x (lent (no OFFSET) m) (pick y (lent (no LANES) m) (lent (ok 0) (storedBytes guests m o l v))) ≡ pick x (lent (no OFFSET) m) (pick y (lent (no LANES) m) (lent (ok 0) (made (writtenBit (under guests) (held m) o l v))))
+        go true y e = refl
+        go false true e = refl
+        go false false e = rw (stored-list guests o l v (good-offset o e .0))
+
+    pub update-is : (hosts : List ℕ) (o k v : ℕ) → updateBytes hosts m o k v ≡ hostOf hosts m o k v
+    unfolding hostOf
+    update-is hosts o k v = update-by m n b hosts (under hosts) (λ i j h q. refl) o k v
+
+pub reset-is : (resets defaults m : List ℕ) → length m ≡ 256 → returnedOf resets defaults m ≡ functionResetOf resets defaults m
+unfolding functionResetOf
+reset-is resets defaults m n = returned-is m n resets defaults

@@ -1,0 +1,59 @@
+-- Demand 3's read-only clause for a plain device: over every sequence of guest accesses, host updates, function resets and platform resets.
+use mathlib.Core.Path.{_≡_}
+use mathlib.Core.List.{List}
+use mathlib.Core.Bool.{Bool, true, false}
+use Prim.Native.Nat.{ℕ, _<_}
+use Rattle.rules.specs.Plain.{under, held, updateGives}
+use Rattle.rules.specs.Past.{Given, nothing, orHeld, ran, since, lastGiven}
+use Rattle.device.specs.declared.Tables.{Tables}
+use Rattle.device.specs.Device.{writeOf, hostOf, functionResetOf}
+
+pub data Event : Type 0 where
+  -- offset, lanes
+  read : ℕ → ℕ → Event
+  -- offset, lanes, value
+  write : ℕ → ℕ → ℕ → Event
+  -- offset, mask, value
+  host-update : ℕ → ℕ → ℕ → Event
+  function-reset : Event
+  platform-reset : Event
+
+abbrev pub isReset : Event → Bool
+isReset (read o l) = false
+isReset (write o l v) = false
+isReset (host-update o k v) = false
+isReset function-reset = false
+isReset platform-reset = true
+
+module _ (t : Tables) where
+  -- the bytes that an event leaves
+  unfoldable pub next : Event → List ℕ → List ℕ
+  next (read o l) m = m
+  next (write o l v) m = writeOf (t .guests) m o l v .bytes
+  next (host-update o k v) m = hostOf (t .hosts) m o k v .bytes
+  next function-reset m = functionResetOf (t .resets) (t .defaults) m
+  next platform-reset m = t .defaults
+
+  -- a run starts from the defaults
+  abbrev pub run : List Event → List ℕ
+  run es = ran next (t .defaults) es
+
+  -- what an event gives bit j of byte i, if it is an accepted host update that masks it
+  unfoldable pub gives : ℕ → ℕ → Event → Given
+  gives i j (read o l) = nothing
+  gives i j (write o l v) = nothing
+  gives i j (host-update o k v) = updateGives (under (t .hosts)) o k v i j
+  gives i j function-reset = nothing
+  gives i j platform-reset = nothing
+
+  -- the last of them since the last platform reset, or the start
+  abbrev pub lastUpdate : ℕ → ℕ → List Event → Given
+  lastUpdate i j es = lastGiven (gives i j) (since isReset es)
+
+  -- no reset mask has a bit outside the guest mask: what a sheet is checked for
+  abbrev pub Inside : Type 0
+  Inside = (i j : ℕ) → i < 256 → j < 8 → under (t .guests) i j ≡ false → under (t .resets) i j ≡ false
+
+  -- a bit that no guest mask has holds its default, or what the last accepted host update since then that masked it gave
+  abbrev pub Read-only : Type 0
+  Read-only = (es : List Event) (i j : ℕ) → i < 256 → j < 8 → under (t .guests) i j ≡ false → held (run es) i j ≡ orHeld (lastUpdate i j es) (held (t .defaults) i j)

@@ -1,0 +1,5 @@
+pub mod Answers
+pub mod Apart
+pub mod Held
+pub mod Made
+pub mod Walked

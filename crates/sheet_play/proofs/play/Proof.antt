@@ -1,0 +1,96 @@
+-- The lines of a text, one after another: what is played so far, and what is left.
+use mathlib.Core.Path.{_≡_, refl}
+use mathlib.Core.List.{[]}
+use native.Mathlib.Omega.{arith}
+use Prim.Native.Nat.{_≤_, _-_, _*_}
+use lib.ListN.{length, drop, take}
+use Rattle.play.specs.Session.{playText, follow}
+use Rattle.play.proofs.Text.{steps, ends}
+use Rattle.sheet_play.specs.Box.{box, lineBox, lineText}
+use borrow.Author.Needs.{needs}
+use Rattle.sheet_play.proofs.play.Statement.{statement}
+use Rattle.sheet_play.proofs.play.Tie as tie
+
+abbrev Inv-loop : tie.InvT-loop
+Inv-loop defaults guests hosts resets m₀ s out₀ a₀ o₀ m out a o = (a ≤ length s) × (o ≤ 12 * a) × (length out ≡ length out₀) × (playText lineBox lineText (box defaults guests hosts resets m₀) [] s ≡ follow (take o out) (playText lineBox lineText (box defaults guests hosts resets m) [] (drop a s)))
+
+abbrev μ-loop : tie.MeasureT-loop
+μ-loop defaults guests hosts resets m₀ s out₀ a₀ o₀ m out a o = length s - a
+
+loop-holds : tie.Need-loop-holds Inv-loop μ-loop
+loop-holds c = (omega arith, omega arith, refl, refl)
+
+line-end-requires : tie.Need-line-end-requires Inv-loop μ-loop
+line-end-requires c κs = search needs
+
+same-length : tie.Need-same-length Inv-loop μ-loop
+same-length c = omega arith
+
+returns : tie.Need-returns Inv-loop μ-loop
+returns c =
+    let d = c .before .before .before .loop in
+    let a = c .before .before .before .before .before .before .args in (
+      ends lineBox lineText (a .s .now) (box (a .defaults .now) (a .guests .now) (a .hosts .now) (a .resets .now) (d .m)) (d .a) _ (take (d .o) (d .out)) (omega (arith, c .before .line-end .ensures .0, c .if1 .taken)) (d .inv .3),
+      ((omega arith, omega arith), omega arith),
+    )
+
+sub-l : tie.Need-sub-l Inv-loop μ-loop
+sub-l c = search needs
+
+part-l-start : tie.Need-part-l-start Inv-loop μ-loop
+part-l-start c = search needs
+
+part-l-end : tie.Need-part-l-end Inv-loop μ-loop
+part-l-end c = search needs
+
+line-requires : tie.Need-line-requires Inv-loop μ-loop
+line-requires c κs = search needs
+
+add-a : tie.Need-add-a Inv-loop μ-loop
+add-a c = search needs
+
+loop-less : tie.Need-loop-less Inv-loop μ-loop
+loop-less c = search needs
+
+loop-again : tie.Need-loop-again Inv-loop μ-loop
+loop-again c =
+    let d = c .before .before .before .before .before .before .before .before .before .loop in
+    let a = c .before .before .before .before .before .before .before .before .before .before .before .before .args in
+    let e = c .before .before .before .before .before .before .before .line-end in
+    let r = c .before .before .line in (
+      omega arith,
+      omega arith,
+      omega arith,
+      steps lineBox lineText (a .s .now) (box (a .defaults .now) (a .guests .now) (a .hosts .now) (a .resets .now) (d .m)) _ (d .a) (e .result) _ (take (d .o) (d .out)) _ (e .ensures .0) (c .before .before .before .before .before .before .if1 .left) (d .inv .3) (r .ensures .0) (r .ensures .1 .0),
+    )
+
+same-length-2 : tie.Need-same-length-2 Inv-loop μ-loop
+same-length-2 c = omega arith
+
+returns-2 : tie.Need-returns-2 Inv-loop μ-loop
+returns-2 c =
+    let d = c .before .loop in
+    let a = c .before .before .before .before .args in (
+      ends lineBox lineText (a .s .now) (box (a .defaults .now) (a .guests .now) (a .hosts .now) (a .resets .now) (d .m)) (d .a) _ (take (d .o) (d .out)) (omega arith) (d .inv .3),
+      ((omega arith, omega arith), omega arith),
+    )
+
+pub play-spec : {M : Type 1} → statement M
+play-spec =
+    tie.close
+    (tie.spec
+    Inv-loop
+    μ-loop
+    loop-holds
+    line-end-requires
+    same-length
+    returns
+    sub-l
+    part-l-start
+    part-l-end
+    line-requires
+    add-a
+    loop-less
+    loop-again
+    same-length-2
+    returns-2)

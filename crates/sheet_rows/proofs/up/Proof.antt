@@ -1,0 +1,23 @@
+-- A digit of upper-case hex.
+use Rattle.bits.proofs.Tests.{tests}
+use Rattle.lines.specs.Hex.{upOf}
+use borrow.Author.Needs.{needs}
+use Rattle.sheet_rows.proofs.up.Statement.{statement}
+use Rattle.sheet_rows.proofs.up.Tie as tie
+
+add-result : tie.Need-add-result
+add-result c = search needs
+
+returns : tie.Need-returns
+unfolding upOf
+returns c = search tests
+
+add-result-2 : tie.Need-add-result-2
+add-result-2 c = search needs
+
+returns-2 : tie.Need-returns-2
+unfolding upOf
+returns-2 c = search tests
+
+pub up-spec : {M : Type 1} → statement M
+up-spec = tie.close (tie.spec add-result returns add-result-2 returns-2)

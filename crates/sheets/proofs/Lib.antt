@@ -1,0 +1,4 @@
+pub mod Entries
+pub mod Checked
+pub mod Cells
+pub mod Demand3

@@ -1,0 +1,74 @@
+-- Where a byte of a part stands.
+use mathlib.Core.Path.{_≡_, sym}
+use Prim.Native.Nat.{_-_}
+use native.Mathlib.Omega.{arith}
+use native.Mathlib.Nat.{add-zero}
+use Rattle.sheets.proofs.Entries.{small}
+use borrow.Author.Needs.{needs}
+use Rattle.sheets.proofs.place.Statement.{statement}
+use Rattle.sheets.proofs.place.Tie as tie
+
+enum-known-e : tie.Need-enum-known-e
+enum-known-e c = search needs
+
+cast-offset : tie.Need-cast-offset
+cast-offset c = search needs
+
+cast-start : tie.Need-cast-start
+cast-start c = search needs
+
+cast-start-2 : tie.Need-cast-start-2
+cast-start-2 c = search needs
+
+mul-start : tie.Need-mul-start
+mul-start c =
+    let g = c .before .before .before .args in
+    let l = c .before .e .given .0 .1 .0 in
+    let bound = small (g .p) l (c .before .before .before .pre .0) (omega arith) in
+    record { fits = omega (arith, bound) }
+
+add-start : tie.Need-add-start
+add-start c =
+    let g = c .before .before .before .args in
+    let l = c .before .e .given .0 .1 .0 in
+    let bound = small (g .p) l (c .before .before .before .pre .0) (omega arith) in
+    record { fits = omega (arith, bound) }
+
+returns : tie.Need-returns
+returns c =
+    let g = c .before .before .before .before .args in
+    let o = c .before .before .e .given .0 .0 in
+    let none : g .i - o ≡ 0 = omega arith in
+    rw (c .before .before .e .given .1, none) (sym (add-zero _))
+
+add-result : tie.Need-add-result
+add-result c =
+    let g = c .before .before .before .before .args in
+    let l = c .before .before .e .given .0 .1 .0 in
+    let bound = small (g .p) l (c .before .before .before .before .pre .0) (omega arith) in
+    record { fits = omega (arith, bound) }
+
+enum-told : tie.Need-enum-told
+enum-told c = search needs
+
+returns-2 : tie.Need-returns-2
+returns-2 c = rw (c .before .before .e .given .1)
+
+returns-3 : tie.Need-returns-3
+returns-3 c = search needs
+
+pub place-spec : {M : Type 1} → statement M
+place-spec =
+    tie.close
+    (tie.spec
+    enum-known-e
+    cast-offset
+    cast-start
+    cast-start-2
+    mul-start
+    add-start
+    returns
+    add-result
+    enum-told
+    returns-2
+    returns-3)
