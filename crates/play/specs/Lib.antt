@@ -1,3 +1,4 @@
 pub mod Session
+pub mod Turn
 pub mod Box
 pub mod Player

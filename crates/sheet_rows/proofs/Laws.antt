@@ -1,4 +1,4 @@
--- Where a part lies within a body, and a list as its places with one byte behind them.
+-- A part's number times a length is small, and a list is its places with one byte behind them.
 use mathlib.Core.Path.{_≡_, sym, _∙_}
 use mathlib.Core.List.{List, [], _∷_, _++_}
 use Prim.Native.Nat.{ℕ, zero, suc, _*_, _<_}
@@ -8,7 +8,7 @@ use lib.Seq.{length-take-le, take-all, take-suc, getD-take}
 use Rattle.bits.specs.Places.{from}
 use Rattle.bits.proofs.Places.{as-from}
 
--- a part's number times a length
+-- by cases, since `omega` has no products
 pub part-below-1024 : (p l : ℕ) → p < 4 → l < 256 → p * l < 1024
 part-below-1024 zero l h g = omega arith
 part-below-1024 (suc zero) l h g = omega arith

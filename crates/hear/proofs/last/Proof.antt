@@ -3,7 +3,8 @@ use mathlib.Core.Path.{sym, _∙_}
 use native.Mathlib.Omega.{arith}
 use lib.ListN.{take}
 use lib.Seq.{length-take-le}
-use Rattle.hear.proofs.Steps.{last-line}
+use Rattle.play.proofs.Turns.{last-line}
+use Rattle.talk.specs.Console.{lineNext, lineSay}
 use borrow.Author.Needs.{needs}
 use Rattle.hear.proofs.last.Statement.{statement}
 use Rattle.hear.proofs.last.Tie as tie
@@ -24,7 +25,7 @@ returns-2 : tie.Need-returns-2
 returns-2 c =
     let r = c .before .before .before .reply in
     let a = c .before .before .before .before .before .before .before .before .before .args in
-    let l = last-line (a .s) (take (a .k) (a .buf .now)) (omega (arith, length-take-le (a .k) (a .buf .now) (omega arith))) in
+    let l = last-line lineNext lineSay 20 (a .s) (take (a .k) (a .buf .now)) (omega (arith, length-take-le (a .k) (a .buf .now) (omega arith))) in
     (search needs, (l .0 ∙ sym (r .ensures .0), l .1 ∙ sym (r .ensures .1 .0)))
 
 pub last-spec : {M : Type 1} → statement M

@@ -37,14 +37,16 @@ loop-again c =
     let d = c .before .before in
     let g = d .before .before .args in
     let t = d .loop .t in
-    let long = d .loop .inv .1 in
-    (omega arith, length-set t (d .loop .c) (c .character .result) ∙ long,
-    set-at (λ (x : ℕ). x ≡ letter "\n") t (d .loop .c) 81 (c .character .result) (rw long (omega arith))
-    (λ ne. d .loop .inv .2)
-    (λ e. absurd (omega arith)),
-    λ j h. set-at (λ (x : ℕ). x ≡ charOf (g .s .now) (g .k) j) t (d .loop .c) j (c .character .result) (rw long (omega arith))
-    (λ ne. d .loop .inv .3 j (omega arith))
-    (λ e. c .character .ensures ∙ rw e))
+    let long = d .loop .inv .1 in (
+      omega arith,
+      length-set t (d .loop .c) (c .character .result) ∙ long,
+      set-at (λ (x : ℕ). x ≡ letter "\n") t (d .loop .c) 81 (c .character .result) (rw long (omega arith))
+          (λ ne. d .loop .inv .2)
+          (λ e. absurd (omega arith)),
+      λ j h. set-at (λ (x : ℕ). x ≡ charOf (g .s .now) (g .k) j) t (d .loop .c) j (c .character .result) (rw long (omega arith))
+          (λ ne. d .loop .inv .3 j (omega arith))
+          (λ e. c .character .ensures ∙ rw e),
+    )
 
 returns : tie.Need-returns Inv-loop μ-loop
 unfolding rowText
