@@ -1,0 +1,32 @@
+-- The last line is answered where there is one.
+use mathlib.Core.Path.{refl, sym, _∙_}
+use native.Mathlib.Omega.{arith}
+use lib.ListN.{take}
+use lib.Seq.{length-take-le}
+use Rattle.play.proofs.Turns.{last-line}
+use Rattle.sheet_play.specs.Box.{box, lineBox, lineText}
+use borrow.Author.Needs.{needs}
+use Rattle.sheet_player.proofs.last.Statement.{statement}
+use Rattle.sheet_player.proofs.last.Tie as tie
+
+returns : tie.Need-returns
+returns c = (search needs, rw (c .if1 .taken) (refl, refl))
+
+slice-aggregate-line : tie.Need-slice-aggregate-line
+slice-aggregate-line c = sym (length-take-le _ _ (omega arith))
+
+line-requires : tie.Need-line-requires
+line-requires c κs = search needs
+
+same-length : tie.Need-same-length
+same-length c = search needs
+
+returns-2 : tie.Need-returns-2
+returns-2 c =
+    let r = c .before .before .line in
+    let a = c .before .before .before .before .before .before .before .before .before .args in
+    let l = last-line lineBox lineText 16 (box (a .defaults .now) (a .guests .now) (a .hosts .now) (a .resets .now) (a .m .now)) (take (a .k) (a .buf .now)) (omega (arith, length-take-le (a .k) (a .buf .now) (omega arith))) in
+    (search needs, (l .0 ∙ sym (r .ensures .0), l .1 ∙ sym (r .ensures .1 .0)))
+
+pub last-spec : {M : Type 1} → statement M
+last-spec = tie.close (tie.spec returns slice-aggregate-line line-requires same-length returns-2)

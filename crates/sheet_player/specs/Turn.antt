@@ -1,0 +1,9 @@
+-- One turn of the sheet's player: the device over lent bytes is the machine, and 16 bytes of an unfinished line are kept.
+use mathlib.Core.Bool.{Bool}
+use mathlib.Core.List.{List}
+use Prim.Native.Nat.{ℕ}
+use Rattle.play.specs.Turn as T
+use Rattle.sheet_play.specs.Box.{Box, lineBox, lineText}
+
+abbrev pub Turned : Bool → Box → List ℕ → Box → List ℕ → List ℕ → Type 0
+Turned on b k after text kept = T.Turned lineBox lineText 16 on b k after text kept
