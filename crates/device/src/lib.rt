@@ -108,13 +108,7 @@ pub fn write(s: Registers, guests: &[u8; 256], offset: u32, lanes: u32, value: u
 }
 
 // The host's change of the bits under `mask`, in the byte at `offset`, within the host masks.
-pub fn host_update(
-    s: Registers,
-    hosts: &[u8; 256],
-    offset: u32,
-    mask: u8,
-    value: u8,
-) -> Updated
+pub fn host_update(s: Registers, hosts: &[u8; 256], offset: u32, mask: u8, value: u8) -> Updated
     ensures { λ r. ⌜ updated r ≡ hostOf (now (hosts .entry)) (s .bytes) offset mask value ⌝ }
 {
     let mut t = s;

@@ -47,16 +47,7 @@ fn put4(m: &mut [u8; 256], o: usize, b0: u8, b1: u8, b2: u8, b3: u8)
 }
 
 // The enabled bytes of `value` at the dword at `o`, each under its mask.
-pub fn store(
-    m: &mut [u8; 256],
-    o: usize,
-    lanes: u32,
-    value: u32,
-    k0: u8,
-    k1: u8,
-    k2: u8,
-    k3: u8,
-)
+pub fn store(m: &mut [u8; 256], o: usize, lanes: u32, value: u32, k0: u8, k1: u8, k2: u8, k3: u8)
     requires { ⌜ o + 3 < 256 ⌝ }
     ensures { λ _. ⌜ now (m .exit) ≡ storedOf (now (m .entry)) o lanes value k0 k1 k2 k3 ⌝ }
 {

@@ -112,13 +112,29 @@ fn complain(s: &[u8], a: SheetAnswer) {
         SheetAnswer::Empty => say(b"the sheet is empty\n"),
         SheetAnswer::Count => say(b"a sheet has 1 to 64 entries, and byte 0 says another number\n"),
         SheetAnswer::Cut => say(b"the sheet ends within its contents\n"),
-        SheetAnswer::Length(k) => complain_entry(s, k, b"a register has 1 to 8 bytes, and its length is another\n"),
-        SheetAnswer::Order(k) => complain_entry(s, k, b"its register starts before that of the entry before it ends\n"),
+        SheetAnswer::Length(k) => complain_entry(
+            s,
+            k,
+            b"a register has 1 to 8 bytes, and its length is another\n",
+        ),
+        SheetAnswer::Order(k) => complain_entry(
+            s,
+            k,
+            b"its register starts before that of the entry before it ends\n",
+        ),
         SheetAnswer::Past(k) => complain_entry(s, k, b"its register passes byte ff\n"),
-        SheetAnswer::Start(k) => complain_entry(s, k, b"its body does not start where the contents, or the body before it, end\n"),
+        SheetAnswer::Start(k) => complain_entry(
+            s,
+            k,
+            b"its body does not start where the contents, or the body before it, end\n",
+        ),
         SheetAnswer::Total => say(b"the sheet does not end where its last body ends\n"),
         SheetAnswer::Shared(k) => complain_entry(s, k, b"its guest and host masks share a bit\n"),
-        SheetAnswer::Outside(k) => complain_entry(s, k, b"its reset mask has a bit outside its guest mask\n"),
+        SheetAnswer::Outside(k) => complain_entry(
+            s,
+            k,
+            b"its reset mask has a bit outside its guest mask\n",
+        ),
     }
 }
 

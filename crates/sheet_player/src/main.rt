@@ -100,7 +100,16 @@ fn session(t: Tables) {
     let mut k: usize = 0;
     let mut turns = u64::MAX;
     while turns > 0 {
-        let h = turn(&defaults, &guests, &hosts, &resets, &mut m, &mut buf, k, &mut out);
+        let h = turn(
+            &defaults,
+            &guests,
+            &hosts,
+            &resets,
+            &mut m,
+            &mut buf,
+            k,
+            &mut out,
+        );
         let n = h.filled;
         let is_written = io::write_all(STDOUT_FILENO, &out[..n]);
         if !is_written {

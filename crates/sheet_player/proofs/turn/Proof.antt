@@ -59,9 +59,10 @@ returns-2 c =
     let f = c .before .before .before .before .before .before .before .before .before .before .before .before .before .fill in
     let a = c .before .before .before .before .before .before .before .before .before .before .before .before .before .before .before .before .before .args in
     let p = c .before .before .before .before .before .before .before .before .before .before .before .before .before .before .before .before .before .pre in
-    let inside : t .result .at ≤ a .k + f .result = omega (arith, t .ensures .1 .0 .0, length-take-le (a .k + f .result) (f .last .0) (omega arith)) in
-    ((k .ensures .0, omega (arith, t .ensures .1 .0 .1, t .ensures .1 .1, p .2), omega (arith, k .ensures .1, f .ensures .1, p .1), omega (arith, t .ensures .1 .1, p .2)),
-    one-turn lineBox lineText 16 (box (a .defaults .now) (a .guests .now) (a .hosts .now) (a .resets .now) (a .m .now)) (box (a .defaults .now) (a .guests .now) (a .hosts .now) (a .resets .now) (t .last .1 .1 .1 .1 .0)) (a .buf .now) (f .last .0) (k .last .0) (take (t .result .filled) (t .last .1 .1 .1 .1 .1 .1 .0)) (a .k) (f .result) (t .result .at) (k .result) (f .ensures .2) (f .ensures .0) (t .ensures .0) inside (k .ensures .2) (k .ensures .3))
+    let inside : t .result .at ≤ a .k + f .result = omega (arith, t .ensures .1 .0 .0, length-take-le (a .k + f .result) (f .last .0) (omega arith)) in (
+      (k .ensures .0, omega (arith, t .ensures .1 .0 .1, t .ensures .1 .1, p .2), omega (arith, k .ensures .1, f .ensures .1, p .1), omega (arith, t .ensures .1 .1, p .2)),
+      one-turn lineBox lineText 16 (box (a .defaults .now) (a .guests .now) (a .hosts .now) (a .resets .now) (a .m .now)) (box (a .defaults .now) (a .guests .now) (a .hosts .now) (a .resets .now) (t .last .1 .1 .1 .1 .0)) (a .buf .now) (f .last .0) (k .last .0) (take (t .result .filled) (t .last .1 .1 .1 .1 .1 .1 .0)) (a .k) (f .result) (t .result .at) (k .result) (f .ensures .2) (f .ensures .0) (t .ensures .0) inside (k .ensures .2) (k .ensures .3),
+    )
 
 pub turn-spec : {M : Type 1} → statement M
 turn-spec =

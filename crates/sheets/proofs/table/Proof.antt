@@ -34,11 +34,13 @@ loop-less c = search needs
 loop-again : tie.Need-loop-again Inv-loop μ-loop
 loop-again c =
     let d = c .before .before in
-    let g = d .before .before .args in
-    (omega arith, length-set (d .loop .t) (d .loop .i) (c .cell .result) ∙ d .loop .inv .1,
-    λ j h. set-at (λ (x : ℕ). x ≡ rawIn (g .s .now) (g .p) j (entries (g .s .now))) (d .loop .t) (d .loop .i) j (c .cell .result) (rw (d .loop .inv .1) (omega arith))
-    (λ ne. d .loop .inv .2 j (omega arith))
-    (λ e. c .cell .ensures ∙ rw e))
+    let g = d .before .before .args in (
+      omega arith,
+      length-set (d .loop .t) (d .loop .i) (c .cell .result) ∙ d .loop .inv .1,
+      λ j h. set-at (λ (x : ℕ). x ≡ rawIn (g .s .now) (g .p) j (entries (g .s .now))) (d .loop .t) (d .loop .i) j (c .cell .result) (rw (d .loop .inv .1) (omega arith))
+          (λ ne. d .loop .inv .2 j (omega arith))
+          (λ e. c .cell .ensures ∙ rw e),
+    )
 
 returns : tie.Need-returns Inv-loop μ-loop
 returns c =

@@ -68,12 +68,13 @@ loop-again c =
     let k = d .loop .k in
     let is : c .before .before .before .before .before .entry-of .result ≡ Listed (offsetOf s k) (lengthOf s k) (startOf s k) = c .before .before .before .before .before .entry-of .ensures ∙ listed-at s k (omega (arith, start .pre .0)) (start .pre .2) in
     let found : c .before .before .before .before .judge .result ≡ entryOf s k = c .before .before .before .before .judge .ensures ∙ rw (is, d .loop .inv .1, d .loop .inv .2) in
-    let fine : accepts (entryOf s k) ≡ true = ap accepts (sym found) ∙ sym (c .before .before .before .good2 .ensures) ∙ c .before .before .if1 .taken in
-    (omega arith,
-    rw (c .before .end-of .ensures, is, add-one k),
-    rw (c .long-of .ensures .0, is, d .loop .inv .2, add-one k),
-    omega (arith, c .long-of .ensures .1, d .loop .inv .3),
-    d .loop .inv .4 ∙ first-step accepts Good (entryOf s) n k (omega arith) ∙ rw (fine, add-one k))
+    let fine : accepts (entryOf s k) ≡ true = ap accepts (sym found) ∙ sym (c .before .before .before .good2 .ensures) ∙ c .before .before .if1 .taken in (
+      omega arith,
+      rw (c .before .end-of .ensures, is, add-one k),
+      rw (c .long-of .ensures .0, is, d .loop .inv .2, add-one k),
+      omega (arith, c .long-of .ensures .1, d .loop .inv .3),
+      d .loop .inv .4 ∙ first-step accepts Good (entryOf s) n k (omega arith) ∙ rw (fine, add-one k),
+    )
 
 returns : tie.Need-returns Inv-loop μ-loop
 returns c =
