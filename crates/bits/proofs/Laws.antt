@@ -9,8 +9,8 @@ use lib.Bits.{bitAnd, bitOr, bitXor, differ, and-step, or-step, xor-step, and-sh
 use mathlib.Core.Bool.{Bool, true, false, not}
 use lib.Dec.{T, eqb, ltb}
 use borrow.Author.Tests.{eq-eqb, eqb-true, lt-ltb, le-ltb, ltb-true, ltb-false}
-use Rattle.bits.specs.Choice.{pick, anyBelow}
-use Rattle.bits.proofs.Below.{any-none, none-any, pick-has}
+use Rattle.bits.specs.Choice.{pick, both, anyBelow}
+use Rattle.bits.proofs.Below.{any-none, none-any, any-ext, pick-has, left-over}
 use Rattle.bits.specs.Bits.{bit, numberOf, little, joined, pickBit, blendK}
 
 -- one bit of each: the operators are the pick
@@ -207,6 +207,12 @@ some-bit k f b = go (eqb (numberOf k f) 0) (anyBelow k (λ (j : ℕ). eqb (f j) 
 -- a blend is not 0 exactly if one of the bits that it picks is 1
 pub some-blended : (k m o n : ℕ) → not (eqb (blendK k m o n) 0) ≡ anyBelow k (λ (j : ℕ). eqb (pick (eqb (bit m j) 1) (bit n j) (bit o j)) 1)
 some-blended k m o n = rw (blend-each k m o n) (some-bit k (λ (j : ℕ). pick (eqb (bit m j) 1) (bit n j) (bit o j)) (λ j. pick-has (λ (x : ℕ). x < 2) (eqb (bit m j) 1) (bit n j) (bit o j) (bit<2 n j) (bit<2 o j)))
+
+-- x has a bit outside the mask m
+pub some-outside : (k m x : ℕ) → not (eqb (blendK k m x 0) 0) ≡ anyBelow k (λ (j : ℕ). both (eqb (bit x j) 1) (not (eqb (bit m j) 1)))
+some-outside k m x =
+    some-blended k m x 0
+    ∙ any-ext k (λ (j : ℕ). eqb (pick (eqb (bit m j) 1) (bit 0 j) (bit x j)) 1) (λ (j : ℕ). both (eqb (bit x j) 1) (not (eqb (bit m j) 1))) (λ j h. rw (bit-zero j) (left-over (eqb (bit m j) 1) (bit x j)))
 
 -- the lower a bits and the upper b
 pub number-split : (a b : ℕ) (f : ℕ → ℕ) → numberOf (a + b) f ≡ numberOf a f + numberOf b (λ (j : ℕ). f (a + j)) * 2 ^ a

@@ -3,7 +3,7 @@ use libc::STDERR_FILENO;
 use libc::STDOUT_FILENO;
 use sheets::SheetAnswer;
 ghost use mathlib.Core.Path.{_≡_};
-ghost use Prim.Native.Nat.{_+_, _≤_};
+ghost use Prim.Native.Nat.{_+_, _<_, _≤_};
 ghost use lib.ListN.{length};
 
 // ---- reading
@@ -105,17 +105,50 @@ fn complain_entry(s: &[u8], k: usize, what: &[u8]) {
     say(what);
 }
 
+// The same, with a number in the middle.
+fn complain_number(s: &[u8], k: usize, what: &[u8], n: u64, more: &[u8]) {
+    say_entry(s, k);
+    say(what);
+    say_number(n);
+    say(more);
+}
+
+// A byte of the entry of that number.
+fn entry_byte(s: &[u8], k: usize, i: usize) -> u64
+    requires { ⌜ i ≤ 4 ⌝ }
+    ensures { λ r. ⌜ r < 256 ⌝ }
+{
+    sheet::byte_at(s, 4 * (k % 64) + i) as u64
+}
+
+// What is wrong with the whole sheet.
+fn complain_whole(what: &[u8], n: u64, more: &[u8]) {
+    say(what);
+    say_number(n);
+    say(more);
+}
+
 // What is wrong with a sheet, in one line.
 fn complain(s: &[u8], a: SheetAnswer) {
     match a {
         SheetAnswer::Good => say(b""),
         SheetAnswer::Empty => say(b"the sheet is empty\n"),
-        SheetAnswer::Count => say(b"a sheet has 1 to 64 entries, and byte 0 says another number\n"),
-        SheetAnswer::Cut => say(b"the sheet ends within its contents\n"),
-        SheetAnswer::Length(k) => complain_entry(
+        SheetAnswer::Count => complain_whole(
+            b"byte 0 says ",
+            sheet::byte_at(s, 0) as u64,
+            b" entries, and a sheet has 1 to 64\n",
+        ),
+        SheetAnswer::Cut => complain_whole(
+            b"the contents are cut short: the sheet has ",
+            s.len() as u64,
+            b" bytes\n",
+        ),
+        SheetAnswer::Length(k) => complain_number(
             s,
             k,
-            b"a register has 1 to 8 bytes, and its length is another\n",
+            b"its length is ",
+            entry_byte(s, k, 2),
+            b", and a register has 1 to 8 bytes\n",
         ),
         SheetAnswer::Order(k) => complain_entry(
             s,
@@ -123,12 +156,18 @@ fn complain(s: &[u8], a: SheetAnswer) {
             b"its register starts before that of the entry before it ends\n",
         ),
         SheetAnswer::Past(k) => complain_entry(s, k, b"its register passes byte ff\n"),
-        SheetAnswer::Start(k) => complain_entry(
+        SheetAnswer::Start(k) => complain_number(
             s,
             k,
-            b"its body does not start where the contents, or the body before it, end\n",
+            b"its body starts at byte ",
+            entry_byte(s, k, 3) + entry_byte(s, k, 4) * 256,
+            b", not where the contents or the body before it end\n",
         ),
-        SheetAnswer::Total => say(b"the sheet does not end where its last body ends\n"),
+        SheetAnswer::Total => complain_whole(
+            b"the sheet has ",
+            s.len() as u64,
+            b" bytes, and its last body does not end there\n",
+        ),
         SheetAnswer::Shared(k) => complain_entry(s, k, b"its guest and host masks share a bit\n"),
         SheetAnswer::Outside(k) => complain_entry(
             s,

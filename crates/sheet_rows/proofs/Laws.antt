@@ -1,20 +1,12 @@
--- A part's number times a length is small, and a list is its places with one byte behind them.
+-- A list is its places with one byte behind them.
 use mathlib.Core.Path.{_≡_, sym, _∙_}
 use mathlib.Core.List.{List, [], _∷_, _++_}
-use Prim.Native.Nat.{ℕ, zero, suc, _*_, _<_}
+use Prim.Native.Nat.{ℕ, suc, _<_}
 use native.Mathlib.Omega.{arith}
 use lib.ListN.{length, take, getD}
 use lib.Seq.{length-take-le, take-all, take-suc, getD-take}
 use Rattle.bits.specs.Places.{from}
 use Rattle.bits.proofs.Places.{as-from}
-
--- by cases, since `omega` has no products
-pub part-below-1024 : (p l : ℕ) → p < 4 → l < 256 → p * l < 1024
-part-below-1024 zero l h g = omega arith
-part-below-1024 (suc zero) l h g = omega arith
-part-below-1024 (suc (suc zero)) l h g = omega arith
-part-below-1024 (suc (suc (suc zero))) l h g = omega arith
-part-below-1024 (suc (suc (suc (suc p)))) l h g = absurd (omega arith)
 
 pub from-then : (n : ℕ) (l : List ℕ) (f : ℕ → ℕ) (x : ℕ) → length l ≡ suc n → getD l n 0 ≡ x → ((i : ℕ) → i < n → getD l i 0 ≡ f i) → l ≡ from n f 0 ++ (x ∷ [])
 from-then n l f x k e h =

@@ -2,27 +2,21 @@
 use mathlib.Core.Path.{_≡_, refl, sym, ap, subst, _∙_}
 use mathlib.Core.List.{List}
 use mathlib.Core.Bool.{Bool, true, false, not}
-use Prim.Native.Nat.{ℕ, zero, suc, _+_, _-_, _*_, _/_, _<_, _≤_}
+use Prim.Native.Nat.{ℕ, zero, suc, _+_, _-_, _*_, _/_, _^_, _<_, _≤_}
 use native.Mathlib.Omega.{arith}
 use lib.Dec.{T, eqb, leb, ltb, leb→le, ltb→lt, eqb→eq}
-use lib.ListN.{length, getD, take, drop, length-drop}
+use native.Mathlib.Decide.{decLt}
+use lib.ListN.{length, getD, take, drop, length-drop, length-take, List·getD-eq-default}
 use lib.Seq.{length-take-le, getD-take, getD-drop}
 use Rattle.bits.specs.Bits.{bit}
 use Rattle.bits.specs.Choice.{pick, both, allBelow}
 use Rattle.bits.specs.Places.{bytes}
-use Rattle.bits.proofs.Below.{both-left, both-right, below, is-true, is-false, any-none}
+use Rattle.bits.proofs.Below.{both-left, both-right, below, is-true, is-false, pick-has}
 use Rattle.bits.proofs.Places.{getD-bytes, bytes-ext}
 use Rattle.sheet.specs.Sheet.{at, entries, contents, offsetOf, lengthOf, startOf, belongs, bodyOf, partOf, GUEST, HOST, RESET, shares, strays, goodCount, goodEntry, goodBody, goodSheet}
+use Rattle.sheet.proofs.Parts.{in-body}
 use Rattle.sheets.specs.Tables.{has, cellIn, tableOf, rawIn}
 use Rattle.sheets.proofs.Checked.{contents-first, lies}
-
--- a byte of a part lies within the body
-in-body : (p l t : ℕ) → p < 4 → t < l → p * l + t < 4 * l
-in-body zero l t h g = omega arith
-in-body (suc zero) l t h g = omega arith
-in-body (suc (suc zero)) l t h g = omega arith
-in-body (suc (suc (suc zero))) l t h g = omega arith
-in-body (suc (suc (suc (suc p)))) l t h g = absurd (omega arith)
 
 pub has-facts : (s : List ℕ) (k i : ℕ) → has s k i ≡ true → (offsetOf s k ≤ i) × (i < offsetOf s k + lengthOf s k)
 has-facts s k i e =
@@ -101,3 +95,17 @@ pub unlisted-cell : (s : List ℕ) (p i n : ℕ) → ((k : ℕ) → k < n → ha
 unfolding cellIn
 unlisted-cell s p i zero e = refl
 unlisted-cell s p i (suc k) e = rw (e k (omega arith)) (unlisted-cell s p i k (λ j h. e j (omega arith)))
+
+-- ---- bytes stay bytes
+
+part-fits : (s : List ℕ) (n a j : ℕ) → ((i : ℕ) → getD s i 0 < 2 ^ 8) → getD (take n (drop a s)) j 0 < 2 ^ 8
+part-fits s n a j b =
+    elim (decLt j n) [
+      | yes h ↦ rw (getD-take n (drop a s) j 0 h, getD-drop a s j 0) (b (a + j))
+      | no h ↦ rw (List·getD-eq-default (take n (drop a s)) 0 {n = j} (rw (length-take n (drop a s)) (omega arith))) (omega arith)
+    ]
+
+pub cell-fits : (s : List ℕ) (p i n : ℕ) → ((i : ℕ) → getD s i 0 < 2 ^ 8) → cellIn s p i n < 2 ^ 8
+unfolding cellIn
+cell-fits s p i zero b = omega arith
+cell-fits s p i (suc k) b = pick-has (λ (x : ℕ). x < 2 ^ 8) (has s k i) _ (cellIn s p i k) (part-fits s (4 * lengthOf s k) (startOf s k) _ b) (cell-fits s p i k b)

@@ -10,7 +10,7 @@ use Rattle.bits.specs.Bits.{bit}
 use Rattle.bits.specs.Choice.{pick, both}
 use Rattle.bits.specs.Places.{bytes}
 use Rattle.bits.proofs.Laws.{bit-zero}
-use Rattle.bits.proofs.Below.{any-none}
+use Rattle.bits.proofs.Below.{any-none, unmasked}
 use Rattle.bits.proofs.Places.{getD-bytes}
 use Rattle.rules.specs.Plain.{held, under}
 use Rattle.device.specs.declared.Tables.{Tables}
@@ -31,15 +31,11 @@ cell-at s p i h = getD-bytes (λ (i : ℕ). cellIn s p i (entries s)) i h
 zero-at : (i j : ℕ) → i < 256 → under (bytes (λ (i : ℕ). 0)) i j ≡ false
 zero-at i j h = rw (getD-bytes (λ (i : ℕ). 0) i h, bit-zero j)
 
-off : (a b : Bool) → both a (not b) ≡ false → b ≡ false → a ≡ false
-off true b e n = rw n at e
-off false b e n = refl
-
 good-inside : (s : List ℕ) → goodSheet s ≡ true → Inside (tables (tableOf s))
 good-inside s g i j h k n =
     let guest : eqb (bit (cellIn s GUEST i (entries s)) j) 1 ≡ false = rw (cell-at s GUEST i h) at n in
     let apart = any-none 8 (λ (j : ℕ). both (eqb (bit (cellIn s RESET i (entries s)) j) 1) (not (eqb (bit (cellIn s GUEST i (entries s)) j) 1))) (cells-inside s g i (entries s) (omega arith)) j k in
-    rw (cell-at s RESET i h) (off (eqb (bit (cellIn s RESET i (entries s)) j) 1) (eqb (bit (cellIn s GUEST i (entries s)) j) 1) apart guest)
+    rw (cell-at s RESET i h) (unmasked (eqb (bit (cellIn s RESET i (entries s)) j) 1) (eqb (bit (cellIn s GUEST i (entries s)) j) 1) apart guest)
 
 -- a sheet that is refused gives zeros, which lie inside one another
 inside : (s : List ℕ) → Inside (tablesOf s)

@@ -18,14 +18,6 @@ pub listed-at : (s : List ℕ) (k : ℕ) → k < entries s → contents s ≤ le
 unfolding entryAt
 listed-at s k h c = rw (lt-ltb k (entries s) h, lt-ltb (4 * k + 4) (length s) (omega arith))
 
--- a part's number times a length
-pub small : (p l : ℕ) → p < 4 → l < 256 → p * l < 1024
-small zero l h g = omega arith
-small (suc zero) l h g = omega arith
-small (suc (suc zero)) l h g = omega arith
-small (suc (suc (suc zero))) l h g = omega arith
-small (suc (suc (suc (suc p)))) l h g = absurd (omega arith)
-
 -- the byte of the entry below k, where it has the byte, else that of those below
 pub raw-step : (s : List ℕ) (p i k : ℕ) → 0 < k → k ≤ entries s → contents s ≤ length s → rawIn s p i k ≡ pick (hasIn (entryAt s (k - 1)) i) (at s (placeIn (entryAt s (k - 1)) p i)) (rawIn s p i (k - 1))
 unfolding rawIn

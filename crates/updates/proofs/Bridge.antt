@@ -10,8 +10,8 @@ use borrow.Author.Tests.{eq-eqb, ne-eqb, ltb-false}
 use Rattle.bits.specs.Bits.{bit, byteOf, blendK}
 use Rattle.bits.specs.Choice.{pick, both, _is_}
 use Rattle.bits.specs.Places.{bytes}
-use Rattle.bits.proofs.Laws.{number-ext, number-bits, bit-zero, blend-each, some-blended}
-use Rattle.bits.proofs.Below.{both-off, both-on, any-ext, mark-is}
+use Rattle.bits.proofs.Laws.{number-ext, number-bits, blend-each, some-outside}
+use Rattle.bits.proofs.Below.{any-ext, mark-is}
 use Rattle.bits.proofs.Places.{set-at, as-bytes}
 use Rattle.answer.specs.Refusals.{ok, no, OFFSET, NOT-HOST}
 use Rattle.map.specs.Class.{isHost}
@@ -26,16 +26,11 @@ use Rattle.updates.specs.Update.{outside, hostedBytes, Lent, lent, updat
 
 -- ---- the mask's bits outside the host mask
 
--- a bit of the mask is left outside exactly if it is none of the host's
-left-bit : (host : Bool) (x : ℕ) → eqb (pick host 0 x) 1 ≡ both (eqb x 1) (not host)
-left-bit true x = sym (both-off (eqb x 1))
-left-bit false x = sym (both-on (eqb x 1))
-
 -- for any table of host masks, and the mask h that it is at byte o
 pub outside-is : (t : List ℕ) (h : Mask) (o mask : ℕ) → ((j : ℕ) → j < 8 → under t o j ≡ h o j) → not (outside t o mask is 0) ≡ P.outside h o mask
 outside-is t h o mask has =
-    some-blended 8 (getD t o 0) mask 0
-    ∙ any-ext 8 (λ (j : ℕ). eqb (pick (under t o j) (bit 0 j) (bit mask j)) 1) (λ (j : ℕ). both (eqb (bit mask j) 1) (not (h o j))) (λ j k. rw (bit-zero j, has j k) (left-bit (h o j) (bit mask j)))
+    some-outside 8 (getD t o 0) mask
+    ∙ any-ext 8 (λ (j : ℕ). both (eqb (bit mask j) 1) (not (under t o j))) (λ (j : ℕ). both (eqb (bit mask j) 1) (not (h o j))) (λ j k. rw (has j k))
 
 -- ---- the bytes afterwards
 

@@ -1,6 +1,6 @@
 -- A byte of a part of an entry.
 use native.Mathlib.Omega.{arith}
-use Rattle.sheet_rows.proofs.Laws.{part-below-1024}
+use Rattle.sheet.proofs.Parts.{part-below-1024}
 use borrow.Author.Needs.{needs}
 use Rattle.sheet_rows.proofs.part_byte.Statement.{statement}
 use Rattle.sheet_rows.proofs.part_byte.Tie as tie

@@ -3,7 +3,7 @@ use mathlib.Core.Path.{_≡_, sym}
 use Prim.Native.Nat.{_-_}
 use native.Mathlib.Omega.{arith}
 use native.Mathlib.Nat.{add-zero}
-use Rattle.sheets.proofs.Entries.{small}
+use Rattle.sheet.proofs.Parts.{part-below-1024}
 use borrow.Author.Needs.{needs}
 use Rattle.sheets.proofs.place.Statement.{statement}
 use Rattle.sheets.proofs.place.Tie as tie
@@ -24,14 +24,14 @@ mul-start : tie.Need-mul-start
 mul-start c =
     let g = c .before .before .before .args in
     let l = c .before .e .given .0 .1 .0 in
-    let bound = small (g .p) l (c .before .before .before .pre .0) (omega arith) in
+    let bound = part-below-1024 (g .p) l (c .before .before .before .pre .0) (omega arith) in
     record { fits = omega (arith, bound) }
 
 add-start : tie.Need-add-start
 add-start c =
     let g = c .before .before .before .args in
     let l = c .before .e .given .0 .1 .0 in
-    let bound = small (g .p) l (c .before .before .before .pre .0) (omega arith) in
+    let bound = part-below-1024 (g .p) l (c .before .before .before .pre .0) (omega arith) in
     record { fits = omega (arith, bound) }
 
 returns : tie.Need-returns
@@ -45,7 +45,7 @@ add-result : tie.Need-add-result
 add-result c =
     let g = c .before .before .before .before .args in
     let l = c .before .before .e .given .0 .1 .0 in
-    let bound = small (g .p) l (c .before .before .before .before .pre .0) (omega arith) in
+    let bound = part-below-1024 (g .p) l (c .before .before .before .before .pre .0) (omega arith) in
     record { fits = omega (arith, bound) }
 
 enum-told : tie.Need-enum-told

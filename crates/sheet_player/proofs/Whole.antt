@@ -1,0 +1,34 @@
+-- What the sheet's player says of a whole session, in whatever blocks it comes: the answers that the rules give, line by line, on the device of the sheet.
+use mathlib.Core.Path.{_≡_, refl}
+use mathlib.Core.List.{List, []}
+use mathlib.Core.Bool.{Bool, true, false}
+use Prim.Native.Nat.{ℕ, _^_, _<_}
+use native.Mathlib.Omega.{arith}
+use lib.ListN.{length, getD}
+use Rattle.bits.specs.Choice.{pick}
+use Rattle.bits.specs.Places.{bytes}
+use Rattle.bits.proofs.Places.{length-bytes, at-each}
+use Rattle.play.specs.Session.{joins, blocksText}
+use Rattle.sheet.specs.Sheet.{entries, DEFAULT}
+use Rattle.sheets.specs.Check.{accepts, checkOf}
+use Rattle.sheets.specs.Tables.{cellIn, tableOf, tables, tablesOf}
+use Rattle.sheets.proofs.Cells.{cell-fits}
+use Rattle.sheet_play.specs.Box.{lineBox, lineText}
+use Rattle.sheet_play.specs.Player.{sheetPlayerOf}
+use Rattle.sheet_play.proofs.Bridge.{Good, boxed, sheet-player-is}
+
+-- bytes by place
+of-places : (f : ℕ → ℕ) → ((i : ℕ) → f i < 2 ^ 8) → Good (bytes f)
+of-places f b = record { long = length-bytes f; fits = λ i. at-each (λ (x : ℕ). x < 2 ^ 8) 256 f 0 i (omega arith) b }
+
+-- the defaults of a sheet's device are 256 bytes
+defaults-good : (s : List ℕ) → ((i : ℕ) → getD s i 0 < 2 ^ 8) → Good (tablesOf s .defaults)
+unfolding tablesOf
+defaults-good s b = go (accepts (checkOf s))
+  where
+    go : (x : Bool) → Good (pick x (tables (tableOf s)) (tables (λ (p : ℕ). bytes (λ (i : ℕ). 0))) .defaults)
+    go true = of-places (λ (i : ℕ). cellIn s DEFAULT i (entries s)) (λ i. cell-fits s DEFAULT i (entries s) b)
+    go false = of-places (λ (i : ℕ). 0) (λ i. omega arith)
+
+pub session-is : (s : List ℕ) → ((i : ℕ) → getD s i 0 < 2 ^ 8) → (xs : List (List ℕ)) → blocksText lineBox lineText 16 (boxed (tablesOf s)) [] xs ≡ sheetPlayerOf (tablesOf s) (joins xs)
+session-is s b xs = sheet-player-is (tablesOf s) (defaults-good s b) xs
