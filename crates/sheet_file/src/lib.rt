@@ -89,13 +89,20 @@ fn say_number(n: u64) {
     io::print_decimal(STDERR_FILENO, n);
 }
 
-// `entry 2 at 2c: `, with entries counted from 1.
+// The last digit of n in upper-case hex.
+fn up(n: u8) -> u8 {
+    let d = n % 16;
+    if d < 10 { 48 + d } else { 55 + d }
+}
+
+// `entry 2 at 2C: `, with entries counted from 1.
 fn say_entry(s: &[u8], k: usize) {
     let number = k % 64;
     say(b"entry ");
     say_number((number as u64) + 1);
     say(b" at ");
-    io::print_hex(STDERR_FILENO, sheet::byte_at(s, 4 * number + 1) as u64, 2);
+    let offset = sheet::byte_at(s, 4 * number + 1);
+    say(&[up(offset / 16), up(offset)]);
     say(b": ");
 }
 
@@ -155,7 +162,7 @@ fn complain(s: &[u8], a: SheetAnswer) {
             k,
             b"its register starts before that of the entry before it ends\n",
         ),
-        SheetAnswer::Past(k) => complain_entry(s, k, b"its register passes byte ff\n"),
+        SheetAnswer::Past(k) => complain_entry(s, k, b"its register passes byte FF\n"),
         SheetAnswer::Start(k) => complain_number(
             s,
             k,

@@ -5,7 +5,7 @@ use Rattle.bits.specs.Choice.{if_then_else_, _is_, _<?_}
 use Rattle.bits.specs.Places.{from}
 use Rattle.lines.specs.Ascii.{ascii, letter}
 use Rattle.lines.specs.Hex.{upOf}
-use Rattle.sheet.specs.Sheet.{at, offsetOf, lengthOf, startOf}
+use Rattle.sheet.specs.Sheet.{at, entries, offsetOf, lengthOf, startOf}
 
 -- two columns for the offset, five for the length, and sixteen for each number behind two spaces
 unfoldable pub heading : List ℕ
@@ -42,3 +42,7 @@ rowText s k = from 81 (charOf s k) 0 ++ ascii "\n"
 unfoldable pub rowsText : List ℕ → ℕ → ℕ → List ℕ
 rowsText s k zero = []
 rowsText s k (suc n) = rowText s k ++ rowsText s (suc k) n
+
+-- the whole table
+unfoldable pub tableText : List ℕ → List ℕ
+tableText s = heading ++ rowsText s 0 (entries s)

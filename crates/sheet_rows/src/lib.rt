@@ -1,9 +1,10 @@
 // A sheet's register as a line of a table: its offset, its length, its default and its masks.
 ghost use mathlib.Core.Path.{_≡_};
-ghost use Prim.Native.Nat.{_+_, _*_, _<_};
+ghost use Prim.Native.Nat.{_+_, _*_, _<_, _≤_};
+ghost use lib.ListN.{length, take};
 ghost use Rattle.lines.specs.Hex.{upOf};
 ghost use Rattle.sheet.specs.Sheet.{at, lengthOf, startOf};
-ghost use Rattle.sheet_rows.specs.Row.{heading, digitOf, columnOf, charOf, rowText};
+ghost use Rattle.sheet_rows.specs.Row.{heading, digitOf, columnOf, charOf, rowText, tableText};
 
 // The heading of the table.
 pub fn head() -> [u8; 82]
@@ -106,4 +107,24 @@ pub fn row(s: &[u8], k: usize) -> [u8; 82]
         c += 1;
     }
     t
+}
+
+// ---- the table
+
+// The whole table at the start of `out`, for as many entries as byte 0 can say; the result is its length.
+pub fn table(s: &[u8], out: &mut [u8]) -> usize
+    requires { ⌜ length (now out) ≡ 20992 ⌝ }
+    ensures { λ r. ⌜ take r (now (out .exit)) ≡ tableText (now (s .entry)) ⌝ }
+    ensures { λ r. ⌜ (r ≤ length (now (out .exit))) × (length (now (out .exit)) ≡ 20992) ⌝ }
+{
+    let first = head();
+    let n = sheet::count(s);
+    let mut o = words::put(out, 0, &first);
+    let mut k: usize = 0;
+    while k < n {
+        let line = row(s, k);
+        o = words::put(out, o, &line);
+        k += 1;
+    }
+    o
 }

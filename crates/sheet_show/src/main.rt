@@ -1,20 +1,13 @@
 // A register sheet as a table: the sheet's file name is the argument.
 use libc::STDOUT_FILENO;
+ghost use mathlib.Core.Path.{_≡_};
+ghost use lib.ListN.{length};
 
-// The heading, and a line a register.
-fn show(s: &[u8]) {
-    let head = sheet_rows::head();
-    let mut is_written = io::write_all(STDOUT_FILENO, &head);
-    let n = sheet::count(s);
-    let mut k: usize = 0;
-    while k < n {
-        if !is_written {
-            return;
-        }
-        let row = sheet_rows::row(s, k);
-        is_written = io::write_all(STDOUT_FILENO, &row);
-        k += 1;
-    }
+// A line of 82 bytes for the heading and for as many entries as a byte can say.
+fn out_buffer() -> [u8; 20992]
+    ensures { λ r. ⌜ 20992 ≡ length r ⌝ }
+{
+    [0; 20992]
 }
 
 fn main() {
@@ -24,5 +17,7 @@ fn main() {
     }
     let n = held.n;
     let bytes = held.bytes;
-    show(&bytes[..n]);
+    let mut out = out_buffer();
+    let filled = sheet_rows::table(&bytes[..n], &mut out);
+    io::write_all(STDOUT_FILENO, &out[..filled]);
 }

@@ -12,14 +12,29 @@ named-requires c κs = search needs
 returns : tie.Need-returns
 returns c = search needs
 
+out-buffer-requires : tie.Need-out-buffer-requires
+out-buffer-requires c κs = search needs
+
 array-share-prefix-bytes : tie.Need-array-share-prefix-bytes
 array-share-prefix-bytes c = search needs
 
-slice-aggregate-show : tie.Need-slice-aggregate-show
-slice-aggregate-show c = sym (length-take-le _ _ (omega arith))
+slice-aggregate-table : tie.Need-slice-aggregate-table
+slice-aggregate-table c = sym (length-take-le _ _ (omega arith))
 
-show-requires : tie.Need-show-requires
-show-requires c κs = search needs
+slice-aggregate-table-2 : tie.Need-slice-aggregate-table-2
+slice-aggregate-table-2 c = search needs
+
+table-requires : tie.Need-table-requires
+table-requires c κs = search needs
+
+array-share-prefix-out : tie.Need-array-share-prefix-out
+array-share-prefix-out c = search needs
+
+slice-aggregate-write-all : tie.Need-slice-aggregate-write-all
+slice-aggregate-write-all c = sym (length-take-le _ _ (omega arith))
+
+write-all-requires : tie.Need-write-all-requires
+write-all-requires c κs = search needs
 
 returns-2 : tie.Need-returns-2
 returns-2 c = search needs
@@ -30,7 +45,12 @@ main-spec =
     (tie.spec
     named-requires
     returns
+    out-buffer-requires
     array-share-prefix-bytes
-    slice-aggregate-show
-    show-requires
+    slice-aggregate-table
+    slice-aggregate-table-2
+    table-requires
+    array-share-prefix-out
+    slice-aggregate-write-all
+    write-all-requires
     returns-2)
