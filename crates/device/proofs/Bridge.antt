@@ -1,20 +1,19 @@
 -- The entries a byte at a time come to the plain rule, for any tables and any 256 bytes.
-use mathlib.Core.Path.{_≡_, refl, sym, ap, _∙_}
+use mathlib.Core.Path.{_≡_, refl}
 use mathlib.Core.List.{List}
 use mathlib.Core.Bool.{Bool, true, false}
 use Prim.Native.Nat.{ℕ, _+_, _/_, _%_, _^_, _<_}
 use native.Mathlib.Omega.{arith}
 use native.Mathlib.Nat.{add-zero}
 use lib.ListN.{length, getD}
-use Rattle.bits.specs.Bits.{bit, numberOf}
+use Rattle.bits.specs.Bits.{bit}
 use Rattle.bits.specs.Choice.{pick}
-use Rattle.bits.proofs.Laws.{bit-number, bit<2, little-bits, joined-little}
 use Rattle.answer.specs.Refusals.{ok, no, OFFSET, LANES}
 use Rattle.rules.specs.Access.{badOffset, badLanes}
 use Rattle.rules.specs.Plain.{held, under, shownValue, writtenBit}
 use Rattle.rules.proofs.Access.{good-offset}
 use Rattle.plain.specs.Bytes.{drivenOf, storedOf}
-use Rattle.plain.proofs.Bridge.{driven-is, reply-is, stored-is, returned-is}
+use Rattle.plain.proofs.Bridge.{joined-bit, driven-is, reply-is, stored-is, returned-is}
 use Rattle.updates.specs.Update.{Lent, lent, updateBytes}
 use Rattle.updates.proofs.Bridge.{update-by}
 use Rattle.plain.specs.Bytes.{returnedOf}
@@ -24,9 +23,7 @@ use Rattle.device.specs.Bytes.{dwordOf, readBytes, storedBytes, writeByt
 module _ (m : List ℕ) (b : (i : ℕ) → getD m i 0 < 2 ^ 8) where
   dword-bit : (o n : ℕ) → n < 32 → bit (dwordOf m o) n ≡ held m (o + n / 8) (n % 8)
   unfolding dwordOf
-  dword-bit o n k =
-      let whole : dwordOf m o ≡ numberOf 32 (λ (n : ℕ). bit (getD m (o + n / 8) 0) (n % 8)) = rw add-zero at (joined-little (λ (k : ℕ). getD m (o + k) 0)) ∙ sym (little-bits 4 (λ (k : ℕ). getD m (o + k) 0) (λ k. b (o + k))) in
-      ap (λ (x : ℕ). bit x n) whole ∙ bit-number 32 (λ (n : ℕ). bit (getD m (o + n / 8) 0) (n % 8)) (λ n. bit<2 (getD m (o + n / 8) 0) (n % 8)) n k
+  dword-bit o n k = rw add-zero at (joined-bit (λ (k : ℕ). getD m (o + k) 0) (λ k. b (o + k)) n k)
 
   pub read-is : (o l : ℕ) → readBytes m o l ≡ readOf m o l
   unfolding readBytes readOf

@@ -8,10 +8,10 @@ use native.Mathlib.Nat.{zero-add, add-zero, div-one}
 use lib.Dec.{T, eqb, eqb→eq}
 use borrow.Author.Tests.{ltb-false}
 use lib.ListN.{length, getD}
-use Rattle.bits.specs.Bits.{bit, numberOf, byteOf, blendK}
+use Rattle.bits.specs.Bits.{bit, numberOf, byteOf, joined, blendK}
 use Rattle.bits.specs.Choice.{pick, both, _is_, allBelow}
 use Rattle.bits.specs.Places.{bytes}
-use Rattle.bits.proofs.Laws.{number-ext, number-bits, bit-zero, blend-each}
+use Rattle.bits.proofs.Laws.{number-ext, number-bits, bit-number, bit-zero, bit<2, blend-each, little-bits, joined-little}
 use Rattle.bits.proofs.Below.{below, both-off}
 use Rattle.bits.proofs.Places.{as-bytes, length-mapN, getD-mapN, length-put4, put4-at}
 use Rattle.answer.specs.Refusals.{ok, no, OFFSET, LANES}
@@ -32,6 +32,12 @@ all-spread = tt
 spread-bit : (l n : ℕ) → l < 16 → n < 32 → bit (spreadOf l) n ≡ bit l (n / 8)
 unfolding spread-at
 spread-bit l n h k = eqb→eq _ _ (below 32 (λ (n : ℕ). eqb (bit (spreadOf l) n) (bit l (n / 8))) (below 16 spread-at all-spread l h) n k)
+
+-- bit n of the dword that four bytes make is bit n % 8 of byte n / 8
+pub joined-bit : (f : ℕ → ℕ) → ((k : ℕ) → f k < 2 ^ 8) → (n : ℕ) → n < 32 → bit (joined (f 0) (f 1) (f 2) (f 3)) n ≡ bit (f (n / 8)) (n % 8)
+joined-bit f small n h =
+    let whole : joined (f 0) (f 1) (f 2) (f 3) ≡ numberOf 32 (λ (n : ℕ). bit (f (n / 8)) (n % 8)) = joined-little f ∙ sym (little-bits 4 f small) in
+    ap (λ (x : ℕ). bit x n) whole ∙ bit-number 32 (λ (n : ℕ). bit (f (n / 8)) (n % 8)) (λ n. bit<2 (f (n / 8)) (n % 8)) n h
 
 -- the enabled bytes of a dword whose bits are b's from byte o on
 pub driven-is : (b : Bits) (o l d : ℕ) → l < 16 → ((n : ℕ) → n < 32 → bit d n ≡ b (o + n / 8) (n % 8)) → drivenOf l d ≡ shownValue b o l

@@ -21,7 +21,7 @@ use Rattle.rules.specs.declared.State.{State}
 use Rattle.rules.specs.Access.{byte, badOffset, badLanes}
 use Rattle.rules.specs.Read.{pointer, readBit, readValue, readOf, imageOf}
 use Rattle.plain.specs.Bytes.{drivenOf}
-use Rattle.plain.proofs.Bridge.{driven-is, reply-is}
+use Rattle.plain.proofs.Bridge.{joined-bit, driven-is, reply-is}
 use Rattle.reads.specs.Shown.{shownByte, shownDword, readLanes, imageBytes}
 
 -- ---- CAPPOINT is the computed byte
@@ -64,9 +64,7 @@ module _ (s : State) (b : (i : ℕ) → byte s i < 2 ^ 8) where
   -- bit n of a dword is bit n % 8 of its byte n / 8, as a guest reads it
   pub dword-bit : (o n : ℕ) → o + 3 < 256 → n < 32 → bit (shownDword (s .bytes) o) n ≡ readBit s (o + n / 8) (n % 8)
   unfolding shownDword
-  dword-bit o n h k =
-      let whole : shownDword (s .bytes) o ≡ numberOf 32 (λ (n : ℕ). bit (shownByte (s .bytes) (o + n / 8)) (n % 8)) = rw add-zero at (joined-little (λ (k : ℕ). shownByte (s .bytes) (o + k))) ∙ sym (little-bits 4 (λ (k : ℕ). shownByte (s .bytes) (o + k)) (λ k. shown< (o + k))) in
-      ap (λ (x : ℕ). bit x n) whole ∙ bit-number 32 (λ (n : ℕ). bit (shownByte (s .bytes) (o + n / 8)) (n % 8)) (λ n. bit<2 (shownByte (s .bytes) (o + n / 8)) (n % 8)) n k ∙ shown-bit (o + n / 8) (n % 8) (omega arith) (omega arith)
+  dword-bit o n h k = rw add-zero at (joined-bit (λ (k : ℕ). shownByte (s .bytes) (o + k)) (λ k. shown< (o + k)) n k) ∙ shown-bit (o + n / 8) (n % 8) (omega arith) (omega arith)
 
   value-is : (o l : ℕ) → o + 3 < 256 → l < 16 → drivenOf l (shownDword (s .bytes) o) ≡ readValue s o l
   unfolding readValue

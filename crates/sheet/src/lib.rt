@@ -18,6 +18,15 @@ pub enum Body {
     Missing,
 }
 
+// The parts of a body, by number.
+pub const DEFAULT: usize = 0;
+
+pub const GUEST: usize = 1;
+
+pub const HOST: usize = 2;
+
+pub const RESET: usize = 3;
+
 // A byte of the sheet, 0 past its end.
 pub fn byte_at(s: &[u8], i: usize) -> u8
     ensures { λ r. ⌜ r ≡ at (now (s .entry)) i ⌝ }

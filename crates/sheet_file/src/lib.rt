@@ -89,20 +89,14 @@ fn say_number(n: u64) {
     io::print_decimal(STDERR_FILENO, n);
 }
 
-// The last digit of n in upper-case hex.
-fn up(n: u8) -> u8 {
-    let d = n % 16;
-    if d < 10 { 48 + d } else { 55 + d }
-}
-
 // `entry 2 at 2C: `, with entries counted from 1.
 fn say_entry(s: &[u8], k: usize) {
     let number = k % 64;
     say(b"entry ");
     say_number((number as u64) + 1);
     say(b" at ");
-    let offset = sheet::byte_at(s, 4 * number + 1);
-    say(&[up(offset / 16), up(offset)]);
+    let offset = sheet::byte_at(s, 4 * number + 1) as u32;
+    say(&[words::digit(offset / 16), words::digit(offset)]);
     say(b": ");
 }
 

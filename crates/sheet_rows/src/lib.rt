@@ -20,10 +20,7 @@ fn up(n: u8) -> u8
     requires { ⌜ n < 16 ⌝ }
     ensures { λ r. ⌜ r ≡ upOf n ⌝ }
 {
-    if n < 10 {
-        return 48 + n;
-    }
-    55 + n
+    words::digit(n as u32)
 }
 
 // A byte of the sheet as a number.

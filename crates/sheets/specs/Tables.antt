@@ -8,9 +8,12 @@ use Rattle.device.specs.declared.Tables.{Tables}
 use Rattle.sheet.specs.Sheet.{at, entries, offsetOf, lengthOf, startOf, bodyOf, partOf, DEFAULT, GUEST, HOST, RESET}
 use Rattle.sheets.specs.Check.{accepts, checkOf}
 
--- entry k has byte i of the device
+-- a register of that offset and length has byte i of the device
+abbrev pub covers : ℕ → ℕ → ℕ → Bool
+covers offset long i = offset ≤? i and i <? offset + long
+
 abbrev pub has : List ℕ → ℕ → ℕ → Bool
-has s k i = offsetOf s k ≤? i and i <? offsetOf s k + lengthOf s k
+has s k i = covers (offsetOf s k) (lengthOf s k) i
 
 -- byte i of part p, from the body of the entry that has it; of the first n entries
 unfoldable pub cellIn : List ℕ → ℕ → ℕ → ℕ → ℕ

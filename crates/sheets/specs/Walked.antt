@@ -1,12 +1,12 @@
 -- What the code makes of an entry that it was handed.
 use mathlib.Core.Bool.{Bool, false}
 use Prim.Native.Nat.{ℕ, _+_, _-_, _*_}
-use Rattle.bits.specs.Choice.{_and_, _≤?_, _<?_}
 use Rattle.sheet.specs.declared.Entry.{Entry}
 use Rattle.sheet.specs.declared.Entry.the-variants.{Listed, End}
 use Rattle.sheets.specs.declared.SheetAnswer.{SheetAnswer}
 use Rattle.sheets.specs.declared.SheetAnswer.the-variants.{Cut}
 use Rattle.sheets.specs.Check.{placed}
+use Rattle.sheets.specs.Tables.{covers}
 
 abbrev pub judged : Entry → ℕ → ℕ → ℕ → SheetAnswer
 judged (Listed o l a) k end place = placed k end place o l a
@@ -21,7 +21,7 @@ longOf (Listed o l a) = 4 * l
 longOf End = 0
 
 abbrev pub hasIn : Entry → ℕ → Bool
-hasIn (Listed o l a) i = o ≤? i and i <? o + l
+hasIn (Listed o l a) i = covers o l i
 hasIn End i = false
 
 abbrev pub placeIn : Entry → ℕ → ℕ → ℕ

@@ -274,10 +274,10 @@ pub fn load(s: &[u8]) -> Loaded
 {
     let a = check(s);
     if good(a) {
-        let defaults = table(s, 0);
-        let guests = table(s, 1);
-        let hosts = table(s, 2);
-        let resets = table(s, 3);
+        let defaults = table(s, sheet::DEFAULT);
+        let guests = table(s, sheet::GUEST);
+        let hosts = table(s, sheet::HOST);
+        let resets = table(s, sheet::RESET);
         let tables = Tables {
             defaults,
             guests,

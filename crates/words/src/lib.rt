@@ -6,7 +6,7 @@ ghost use lib.ListN.{length, take};
 ghost use Rattle.lines.specs.Hex.{upOf, hexOf};
 
 // The last digit of n in upper-case hex.
-fn digit(n: u32) -> u8
+pub fn digit(n: u32) -> u8
     ensures { λ r. ⌜ r ≡ upOf (n % 16) ⌝ }
 {
     let d = n % 16;

@@ -1,23 +1,19 @@
--- A digit of upper-case hex.
-use Rattle.bits.proofs.Tests.{tests}
-use Rattle.lines.specs.Hex.{upOf}
+-- A digit below 16 is its own last digit.
+use mathlib.Core.Path.{_≡_, _∙_}
+use Prim.Native.Nat.{_%_}
+use native.Mathlib.Omega.{arith}
 use borrow.Author.Needs.{needs}
 use Rattle.sheet_rows.proofs.up.Statement.{statement}
 use Rattle.sheet_rows.proofs.up.Tie as tie
 
-add-result : tie.Need-add-result
-add-result c = search needs
+digit-requires : tie.Need-digit-requires
+digit-requires c κs = search needs
 
 returns : tie.Need-returns
-unfolding upOf
-returns c = search tests
-
-add-result-2 : tie.Need-add-result-2
-add-result-2 c = search needs
-
-returns-2 : tie.Need-returns-2
-unfolding upOf
-returns-2 c = search tests
+returns c =
+    let n = c .before .args .n in
+    let same : n % 16 ≡ n = omega (arith, c .before .pre) in
+    c .digit .ensures ∙ rw same
 
 pub up-spec : {M : Type 1} → statement M
-up-spec = tie.close (tie.spec add-result returns add-result-2 returns-2)
+up-spec = tie.close (tie.spec digit-requires returns)
