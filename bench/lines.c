@@ -1,4 +1,5 @@
-// Makes a session of one kind of line: `lines writes-f|writes-any|reads|empty COUNT`, the same one for the same arguments.
+// Makes a session of one kind of line: `lines writes-f|writes-any|reads|empty COUNT`, the same one for the same arguments. End signals
+// among the writes are not counted.
 #include <stdint.h>
 #include <stdio.h>
 #include <stdlib.h>
@@ -16,7 +17,15 @@ static unsigned any_offset(void) { return any() % 64 * 4; }
 
 static unsigned any_lanes(void) { return any() % 16; }
 
-static void put_write(unsigned offset, unsigned lanes, uint32_t value) { printf("W %02X %X %08X\n", offset, lanes, value); }
+enum { AFCTL = 0xA8 };
+
+// A write. Where it starts a function reset, the end signal follows: a busy function drops what is written.
+static void put_write(unsigned offset, unsigned lanes, uint32_t value)
+{
+    printf("W %02X %X %08X\n", offset, lanes, value);
+    if (offset == AFCTL && lanes & value & 1)
+        puts("E");
+}
 
 static void write_f(void)
 {

@@ -97,23 +97,25 @@ static char *host_line(struct state *s, const uint8_t *line, char *out)
     return put_done(out, host_update(s, offset, mask, value));
 }
 
-// `P`
-static char *reset_line(struct state *s, const uint8_t *line, char *out)
+// `P` or `E`
+static char *letter_line(struct state *s, const uint8_t *line, char *out)
 {
-    if (line[0] != 'P')
-        return put_refusal(out, LINE);
-    platform_reset(s);
+    switch (line[0]) {
+    case 'P': platform_reset(s); break;
+    case 'E': end_signal(s); break;
+    default: return put_refusal(out, LINE);
+    }
     return put_done(out, ACCEPTED);
 }
 
-// Answers a line, without its LF. The four forms have four lengths.
+// Answers a line, without its LF. No two forms have the same length, but for those of one letter.
 static char *answer(struct state *s, const uint8_t *line, size_t length, char *out)
 {
     switch (length) {
     case 15: return write_line(s, line, out);
     case 6: return read_line(s, line, out);
     case 10: return host_line(s, line, out);
-    case 1: return reset_line(s, line, out);
+    case 1: return letter_line(s, line, out);
     default: return put_refusal(out, LINE);
     }
 }

@@ -100,12 +100,13 @@ enum { ACCEPTED = 0, OFFSET = 5, LANES = 6, NOT_HOST = 7, LINE = 9 };
 struct state {
     uint8_t bytes[BYTES];
     bool svid2_closed, sid2_closed, swsci15_closed;
+    bool busy; // a function reset runs
 };
 
 static void platform_reset(struct state *s)
 {
     memcpy(s->bytes, initial, BYTES);
-    s->svid2_closed = s->sid2_closed = s->swsci15_closed = false;
+    s->svid2_closed = s->sid2_closed = s->swsci15_closed = s->busy = false;
 }
 
 static uint8_t blend(uint8_t mask, uint8_t old, uint8_t new)
@@ -145,12 +146,6 @@ static void write_byte(struct state *s, unsigned at, uint8_t value)
     s->bytes[at] = blend(mask, s->bytes[at], value);
 }
 
-static void function_reset(struct state *s)
-{
-    for (int i = 0; i < BYTES; i++)
-        s->bytes[i] = blend(reset[i], s->bytes[i], initial[i]);
-}
-
 // What a write does besides the bytes that it stores.
 static void after_write(struct state *s, unsigned offset, unsigned lanes, uint32_t value)
 {
@@ -167,8 +162,7 @@ static void after_write(struct state *s, unsigned offset, unsigned lanes, uint32
             s->bytes[APERTURE] &= ~taken(s);
         break;
     case AFCTL:
-        if (lanes & value & 0x1)
-            function_reset(s);
+        s->busy = (lanes & value & 0x1) != 0;
         break;
     }
 }
@@ -179,6 +173,8 @@ static int guest_write(struct state *s, unsigned offset, unsigned lanes, uint32_
         return OFFSET;
     if (lanes > 15)
         return LANES;
+    if (s->busy)
+        return ACCEPTED;
     for (int lane = 0; lane < 4; lane++)
         if (lanes >> lane & 1)
             write_byte(s, offset + lane, value >> 8 * lane);
@@ -190,6 +186,8 @@ static int guest_write(struct state *s, unsigned offset, unsigned lanes, uint32_
 
 static uint8_t shown(const struct state *s, unsigned at)
 {
+    if (s->busy)
+        return 0xFF;
     if (at == CAPPOINT)
         return s->bytes[CAPL] & 1 ? 0xD0 : 0x90;
     return s->bytes[at];
@@ -209,7 +207,17 @@ static int guest_read(const struct state *s, unsigned offset, unsigned lanes, ui
     return ACCEPTED;
 }
 
-// ---- a host update
+// ---- the host's part
+
+static void end_signal(struct state *s)
+{
+    if (!s->busy)
+        return;
+    for (int i = 0; i < BYTES; i++)
+        s->bytes[i] = blend(reset[i], s->bytes[i], initial[i]);
+    s->bytes[AFCTL] &= ~1;
+    s->busy = false;
+}
 
 static inline int host_update(struct state *s, unsigned offset, uint8_t mask, uint8_t value)
 {

@@ -21,8 +21,10 @@ int main(void)
     twin_guest_write(&s, SVID2, 0x3, 0x1234); // the first write closes the field
     show("locked", &s);
 
-    twin_guest_write(&s, AFCTL, 0x1, 0x01); // the function reset
-    show("function reset", &s);
+    twin_guest_write(&s, AFCTL, 0x1, 0x01); // starts the function reset
+    show("reset started", &s); // busy: every byte reads FF
+    twin_end_signal(&s); // the host's part
+    show("reset ended", &s);
 
     uint32_t number = twin_guest_write(&s, SVID2, 0x3, 0xFFFF);
     show("written again", &s);

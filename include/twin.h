@@ -31,12 +31,23 @@ typedef struct twin_closed {
     uint8_t swsci15;
 } twin_closed;
 
-// The 256 configuration bytes, the port latch, and which write-once fields are closed. Every pattern of bytes is a state.
-// The record's last byte is padding and means nothing. Byte 34 is not what a guest reads there: CAPPOINT is computed at each read.
+// The 256 configuration bytes, the port latch, which write-once fields are closed, and whether a function reset runs. Every pattern of the 264 bytes is a state.
+// Byte 34 is not what a guest reads there: CAPPOINT is computed at each read.
+//
+// busy: 0 where no function reset runs, any other number where one does. A guest write of 1 to AFCTL bit 0 starts it: busy becomes 1, and nothing else changes.
+// The host's end signal ends it: the paper's F bits take their defaults, AFCTL bit 0 and busy become 0, and all else stays, closed fields among it.
+// A platform reset ends it too. Nothing else changes busy. While busy:
+// - guest reads give FF in enabled lanes and 00 in the others, and through the port pair FF in each byte of the width;
+// - guest writes are answered as accepted and change nothing, through the port pair too;
+// - no window claims anything;
+// - host updates and the port latch work;
+// - what is refused otherwise is refused, with the same number.
+// In a record that was stored by a program without a busy byte, byte 263 is undefined: set it to 0 before use.
 typedef struct twin_state {
     uint8_t bytes[256];
     uint32_t latch;
     twin_closed closed;
+    uint8_t busy;
 } twin_state;
 
 TWIN_ASSERT(sizeof(twin_state) == 264, "a record has 264 bytes");
@@ -44,6 +55,7 @@ TWIN_ASSERT(TWIN_ALIGNOF(twin_state) == 4, "a record is aligned to 4 bytes");
 TWIN_ASSERT(offsetof(twin_state, bytes) == 0, "the configuration bytes stand first");
 TWIN_ASSERT(offsetof(twin_state, latch) == 256, "the latch stands behind the bytes");
 TWIN_ASSERT(offsetof(twin_state, closed) == 260, "the flags stand behind the latch");
+TWIN_ASSERT(offsetof(twin_state, busy) == 263, "the busy byte stands last");
 TWIN_ASSERT(offsetof(twin_closed, svid2) == 0, "SVID2's flag stands first");
 TWIN_ASSERT(offsetof(twin_closed, sid2) == 1, "SID2's flag stands second");
 TWIN_ASSERT(offsetof(twin_closed, swsci15) == 2, "the flag of SWSCI bit 15 stands third");
@@ -96,21 +108,23 @@ enum twin_operation {
     TWIN_DO_CLAIM_MEMORY = 6, // low dword, high dword of the address
     TWIN_DO_CLAIM_PORT = 7,   // port
     TWIN_DO_PROBE = 8,        // low dword, high dword
-    TWIN_DO_WALK = 9          // wanted ID
+    TWIN_DO_WALK = 9,         // wanted ID
+    TWIN_DO_END_SIGNAL = 10
 };
 
 // ---- the exported functions
 // A 64-bit result has the refusal's number in bits 63:48, 0 where it is accepted, and the value in bits 47:0.
 
-// A platform reset: defaults, fields open, latch 0. It also makes any memory of a record's size the fresh state.
+// A platform reset: defaults, fields open, latch 0, not busy. It also makes any memory of a record's size the fresh state.
 void twin_platform_reset(twin_state *s);
 
-// A guest write of the lanes' bytes at offset; lanes is 0 to 15, bit i for byte offset + i. Writing 1 to AFCTL bit 0 performs the function reset within the write.
+// A guest write of the lanes' bytes at offset; lanes is 0 to 15, bit i for byte offset + i.
+// Writing 1 to AFCTL bit 0 starts a function reset, which the host's end signal ends. Until then the function is busy, and a write is accepted and dropped.
 // The result is the refusal's number: 0, TWIN_OFFSET or TWIN_LANES. The second form does the same over a copy of the record.
 uint32_t twin_write(twin_state *s, uint32_t offset, uint32_t lanes, uint32_t value);
 uint32_t twin_write_by_value(twin_state *s, uint32_t offset, uint32_t lanes, uint32_t value);
 
-// A guest read: each enabled byte in its place and 00 in the others.
+// A guest read: each enabled byte in its place, FF while busy, and 00 in the others.
 uint64_t twin_read(const twin_state *s, uint32_t offset, uint32_t lanes);
 
 // The operation of number op (enum twin_operation); arguments that it has no use for have no say.
@@ -184,16 +198,22 @@ static inline uint64_t twin_look(const twin_state *s, uint32_t op, uint32_t a, u
     return twin_do(&copy, op, a, b, 0);
 }
 
-// A guest read; refusals 5 and 6.
+// A guest read, of ones while busy; refusals 5 and 6.
 static inline twin_reply twin_guest_read(const twin_state *s, uint32_t offset, uint32_t lanes)
 {
     return twin_reply_of(twin_read(s, offset, lanes));
 }
 
-// A guest write; the result is the refusal's number, 0, 5 or 6.
+// A guest write, dropped while busy; the result is the refusal's number, 0, 5 or 6.
 static inline uint32_t twin_guest_write(twin_state *s, uint32_t offset, uint32_t lanes, uint32_t value)
 {
     return twin_write(s, offset, lanes, value);
+}
+
+// The host's end signal: it ends the function reset that runs, and changes nothing where none does.
+static inline void twin_end_signal(twin_state *s)
+{
+    twin_do(s, TWIN_DO_END_SIGNAL, 0, 0, 0);
 }
 
 // A host update of one byte: masked bits take the value's bits. The result is the refusal's number, 0, 5 or 7.
@@ -202,25 +222,25 @@ static inline uint32_t twin_host_update(twin_state *s, uint32_t offset, uint8_t 
     return twin_reply_of(twin_do(s, TWIN_DO_HOST_UPDATE, offset, mask, value)).number;
 }
 
-// A write of width bytes to a port: 4 bytes at CF8h store the latch, data goes to the dword that it names. The result is the refusal's number, 0, 2, 3 or 4.
+// A write of width bytes to a port: 4 bytes at CF8h store the latch, data goes to the dword that it names, and is dropped while busy. The result is the refusal's number, 0, 2, 3 or 4.
 static inline uint32_t twin_port_write(twin_state *s, uint16_t port, uint32_t width, uint32_t value)
 {
     return twin_reply_of(twin_do(s, TWIN_DO_PORT_WRITE, port, width, value)).number;
 }
 
-// A read of width bytes from a port; refusals 2, 3 and 4.
+// A read of width bytes from a port, data of ones while busy; refusals 2, 3 and 4.
 static inline twin_reply twin_port_read(const twin_state *s, uint16_t port, uint32_t width)
 {
     return twin_reply_of(twin_look(s, TWIN_DO_PORT_READ, port, width));
 }
 
-// Which window claims a memory address.
+// Which window claims a memory address; none while busy.
 static inline twin_claim twin_claim_memory(const twin_state *s, uint64_t address)
 {
     return twin_claim_of(twin_look(s, TWIN_DO_CLAIM_MEMORY, (uint32_t)address, (uint32_t)(address >> 32)));
 }
 
-// Which window claims an I/O port.
+// Which window claims an I/O port; none while busy.
 static inline twin_claim twin_claim_port(const twin_state *s, uint16_t port)
 {
     return twin_claim_of(twin_look(s, TWIN_DO_CLAIM_PORT, port, 0));
@@ -232,7 +252,7 @@ static inline twin_range twin_size_probe(uint32_t low, uint32_t high)
     return twin_range_of(twin_probe(low, high));
 }
 
-// A capability walk over the function's own bytes as a guest reads them; refusals 10 and 11.
+// A capability walk over the function's own bytes as a guest reads them, FF all of them while busy; refusals 10 and 11.
 static inline twin_item twin_find(const twin_state *s, uint8_t wanted)
 {
     return twin_item_of(twin_look(s, TWIN_DO_WALK, wanted, 0));
@@ -244,7 +264,7 @@ static inline twin_item twin_find_in(const uint8_t *bytes, size_t length, uint8_
     return twin_item_of(twin_walk(bytes, length, wanted));
 }
 
-// The function's 256 bytes as a guest reads them.
+// The function's 256 bytes as a guest reads them, FF all of them while busy.
 static inline void twin_image(const twin_state *s, uint8_t image[256])
 {
     for (uint32_t offset = 0; offset < 256; offset += 4) {

@@ -32,21 +32,26 @@ class Paper(unittest.TestCase):
                 ([(0x7C, 0x8, 0x01000000)], 0x34, 0xF, 0x000000D0),
                 ([(0xD4, 0x1, 1)], 0xD4, 0x1, 0),
                 ([(0xD4, 0x1, 1), (0xD4, 0x1, 3)], 0xD4, 0x1, 3),
-                ([(0xE8, 0x2, 0), (0xE8, 0xF, 0x8001)], 0xE8, 0xF, 1),
-                ([(0x2C, 0x3, 0x1234), (0xA8, 0x1, 1), (0x2C, 0x3, 0xFFFF)], 0x2C, 0x3, 0x1234)]:
+                ([(0xE8, 0x2, 0), (0xE8, 0xF, 0x8001)], 0xE8, 0xF, 1)]:
             with self.subTest(writes=writes):
                 self.assertEqual(self.after(*writes).read(offset, lanes), value)
 
+    def test_a_lock_holds_through_a_function_reset(self):
+        t = self.after((0x2C, 0x3, 0x1234), (0xA8, 0x1, 1))
+        t.end_signal()
+        t.write(0x2C, 0x3, 0xFFFF)
+        self.assertEqual(t.read(0x2C, 0x3), 0x1234)
+
     def test_layout(self):
-        t = self.after((0x2C, 0x8, 0xAB000000), (0xFC, 0xF, 0x44332211))
+        t = self.after((0x2C, 0x8, 0xAB000000), (0xFC, 0xF, 0x44332211), (0xA8, 0x1, 1))
         t.port_write(0xCF8, 4, 0x80FEDCB8)
         record = t.record()
         self.assertEqual(len(record), 264)
         self.assertEqual(record[0x00:0x04].hex(), "86805201")
         self.assertEqual(record[0x2C:0x30].hex(), "000000ab")
         self.assertEqual(record[0xFC:0x104].hex(), "11223344b8dcfe80")
-        self.assertEqual(record[0x104:0x107].hex(), "000100")
-        self.assertEqual((t.state.latch, t.state.closed.sid2), (0x80FEDCB8, 1))
+        self.assertEqual(record[0x104:0x108].hex(), "00010001")
+        self.assertEqual((t.state.latch, t.state.closed.sid2, t.state.busy), (0x80FEDCB8, 1, 1))
 
     def test_host_updates(self):
         t = Twin()
@@ -96,6 +101,67 @@ class Paper(unittest.TestCase):
         self.refused(Refusal.ENDLESS, twin.walk, image, 0x77, count=48)
         for other in [b"", image[:255], image + b"\0"]:
             self.refused(Refusal.LENGTH, twin.walk, other, 0x13)
+
+    def busy_ones(self):
+        """A twin with windows, a closed field and a function reset that runs, with a busy byte that a start leaves and with foreign ones."""
+        t = self.after((0x04, 0x1, 0x07), (0x10, 0xF, 0x00400000), (0x20, 0xF, 0xE040), (0x2C, 0x3, 0x1234), (0xA8, 0x1, 0x01))
+        self.assertEqual((t.state.busy, t.busy), (1, True))
+        return [Twin(t.record()[:263] + bytes([busy])) for busy in (1, 7, 0xFF)]
+
+    def test_a_start_changes_the_busy_byte_alone(self):
+        idle = self.after((0x04, 0x1, 0x07), (0x2C, 0x3, 0x1234))
+        before = idle.record()
+        for lanes, value in [(0x0, 1), (0xE, ALL), (0x1, 0), (0xF, ALL - 1)]:
+            idle.write(0xA8, lanes, value)
+            self.assertEqual((idle.record(), idle.busy), (before, False))
+        idle.write(0xA8, 0xF, ALL)
+        self.assertEqual((idle.record(), idle.busy), (before[:263] + b"\1", True))
+
+    def test_an_end_returns_the_f_bits_and_no_others(self):
+        for t in self.busy_ones():
+            t.state.bytes[0xA8] = 0x81  # of foreign making
+            wanted = bytearray(t.record())
+            for at, byte in [(0x04, 0), (0x12, 0), (0x20, 0x01), (0x21, 0), (0xA8, 0x80), (263, 0)]:
+                wanted[at] = byte
+            t.end_signal()
+            self.assertEqual((t.record(), t.busy), (wanted, False))
+        idle = self.after((0x04, 0x1, 0x07))
+        before = idle.record()
+        idle.end_signal()
+        self.assertEqual(idle.record(), before)
+
+    def test_a_busy_function_reads_ones_and_drops_writes(self):
+        for t in self.busy_ones():
+            before = t.record()
+            self.assertEqual([t.read(0x00, 0xF), t.read(0xA8, 0x5), t.read(0xA8, 0x0)], [ALL, 0x00FF00FF, 0])
+            self.assertEqual(t.image(), b"\xff" * 256)
+            self.refused(Refusal.ENDLESS, t.walk, 0x13, count=48)
+            self.assertEqual(t.walk(0xFF), Found(0xFC, 1))
+            for offset in range(0, 256, 4):
+                t.write(offset, 0xF, 0)
+                t.write(offset, 0xF, ALL)
+            self.refused(Refusal.LANES, t.read, 0x00, 0x10)
+            self.refused(Refusal.OFFSET, t.write, 0x01, 0xF, 0)
+            self.assertEqual(t.record(), before)
+
+            self.refused(Refusal.NOT_OURS, t.port_read, 0xCFC, 4)
+            t.port_write(0xCF8, 4, 0x8000102C)
+            t.port_write(0xCFE, 2, 0x5678)
+            self.assertEqual([t.port_read(0xCF8, 4), t.port_read(0xCFE, 2), t.port_read(0xCFF, 1)], [0x8000102C, 0xFFFF, 0xFF])
+            self.assertEqual(t.record(), before[:256] + bytes.fromhex("2c100080") + before[260:])
+
+    def test_a_busy_function_claims_nothing_and_hears_its_host(self):
+        for t in self.busy_ones():
+            idle = Twin(t.record()[:263] + b"\0")
+            self.assertEqual(idle.claim_memory(0x400010), Claim(Window.TRANSLATION, 0x10))
+            self.assertEqual(idle.claim_port(0xE041), Claim(Window.IO, 1))
+            self.assertEqual((t.claim_memory(0x400010), t.claim_port(0xE041)), (None, None))
+            busy = t.state.busy
+            t.host_update(0x08, 0xFF, 0x09)
+            self.refused(Refusal.NOT_HOST, t.host_update, 0x2C, 0x01, 0x01)
+            self.assertEqual((t.state.bytes[0x08], t.state.busy), (0x09, busy))
+            t.platform_reset()
+            self.assertEqual(t.record(), Twin().record())
 
     def test_refusals_leave_every_byte(self):
         made = random.Random(1)

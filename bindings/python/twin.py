@@ -3,7 +3,9 @@
     import twin
     t = twin.Twin()
     t.write(0x2C, 0x3, 0x1234)       # SVID2 is written, and closed
-    t.write(0xA8, 0x1, 0x0001)       # a function reset
+    t.write(0xA8, 0x1, 0x0001)       # starts a function reset
+    t.busy                           # True: every byte reads FF
+    t.end_signal()                   # ends it
     t.write(0x2C, 0x3, 0xFFFF)       # accepted, and changes nothing
     hex(t.read(0x2C, 0x3))           # '0x1234'
 
@@ -74,16 +76,16 @@ class Closed(ctypes.Structure):
 
 
 class State(ctypes.Structure):
-    """The record: 256 configuration bytes, the port latch, the write-once fields. Every pattern of bytes is a state."""
-    _fields_ = [("bytes", ctypes.c_uint8 * 256), ("latch", ctypes.c_uint32), ("closed", Closed)]
+    """The record: 256 configuration bytes, the port latch, the write-once fields, and whether a function reset runs (busy: 0 no, any other number yes). Every pattern of bytes is a state."""
+    _fields_ = [("bytes", ctypes.c_uint8 * 256), ("latch", ctypes.c_uint32), ("closed", Closed), ("busy", ctypes.c_uint8)]
 
 
 assert ctypes.sizeof(State) == 264 and ctypes.alignment(State) == 4
-assert (State.bytes.offset, State.latch.offset, State.closed.offset) == (0, 256, 260)
+assert (State.bytes.offset, State.latch.offset, State.closed.offset, State.busy.offset) == (0, 256, 260, 263)
 assert (Closed.svid2.offset, Closed.sid2.offset, Closed.swsci15.offset) == (0, 1, 2)
 
 # The operations of the door.
-_PLATFORM_RESET, _WRITE, _READ, _HOST_UPDATE, _PORT_WRITE, _PORT_READ, _CLAIM_MEMORY, _CLAIM_PORT, _PROBE, _WALK = range(10)
+_PLATFORM_RESET, _WRITE, _READ, _HOST_UPDATE, _PORT_WRITE, _PORT_READ, _CLAIM_MEMORY, _CLAIM_PORT, _PROBE, _WALK, _END_SIGNAL = range(11)
 
 
 def _library():
@@ -140,10 +142,13 @@ def _found(result):
 
 
 class Twin:
-    """The function, fresh, or over a record of any making. `state` is the record itself."""
+    """The function, fresh, or over a record of any making. `state` is the record itself.
+
+    A write of 1 to AFCTL bit 0 starts a function reset, and end_signal() or a platform reset ends it. Between the two the function is busy: guest reads give FF in enabled lanes, guest writes are accepted and dropped, both through the port pair too, and nothing is claimed. Host updates and the port latch work, and refusals are the same.
+    """
 
     def __init__(self, record=None):
-        """Without a record, the fresh state. A record is 264 bytes, which are copied."""
+        """Without a record, the fresh state. A record is 264 bytes, which are copied; in one that was stored by a program without a busy byte the last is undefined, and has to be set to 0."""
         self.state = State()
         if record is None:
             self.platform_reset()
@@ -153,25 +158,34 @@ class Twin:
             ctypes.memmove(ctypes.byref(self.state), bytes(record), ctypes.sizeof(State))
 
     def record(self):
-        """A copy of the record's 264 bytes; the last is padding."""
+        """A copy of the record's 264 bytes."""
         return bytes(self.state)
 
     def _do(self, op, a=0, b=0, c=0):
         return _lib.twin_do(ctypes.byref(self.state), op, a, b, c)
 
     def platform_reset(self):
-        """Returns everything to the fresh state: defaults, fields open, latch 0."""
+        """Returns everything to the fresh state: defaults, fields open, latch 0, not busy."""
         _lib.twin_platform_reset(ctypes.byref(self.state))
 
     def write(self, offset, lanes, value):
-        """A guest write of the lanes' bytes at offset; refusals 5 and 6. Writing 1 to AFCTL bit 0 performs the function reset within it."""
+        """A guest write of the lanes' bytes at offset; refusals 5 and 6. Writing 1 to AFCTL bit 0 starts a function reset; until its end a write is accepted and dropped."""
         _fits(32, offset, lanes, value)
         _accepted(_lib.twin_write(ctypes.byref(self.state), offset, lanes, value))
 
     def read(self, offset, lanes):
-        """A guest read: each enabled byte in its place and 00 in the others; refusals 5 and 6."""
+        """A guest read: each enabled byte in its place, FF while busy, and 00 in the others; refusals 5 and 6."""
         _fits(32, offset, lanes)
         return _value(_lib.twin_read(ctypes.byref(self.state), offset, lanes))
+
+    @property
+    def busy(self):
+        """Whether a function reset runs. The host knows it; a guest reads ones."""
+        return self.state.busy != 0
+
+    def end_signal(self):
+        """The host's end signal: it ends the function reset that runs, and gives the F bits and AFCTL bit 0 their defaults. Where none runs it changes nothing."""
+        _value(self._do(_END_SIGNAL))
 
     def host_update(self, offset, mask, value):
         """A host update of the masked bits of one byte; refusals 5 and 7."""
@@ -180,33 +194,33 @@ class Twin:
         _value(self._do(_HOST_UPDATE, offset, mask, value))
 
     def port_write(self, port, width, value):
-        """A write of width bytes to a port; refusals 2, 3 and 4. 4 bytes at CF8h store the latch, data goes to the dword that it names."""
+        """A write of width bytes to a port; refusals 2, 3 and 4. 4 bytes at CF8h store the latch, data goes to the dword that it names, and is dropped while busy."""
         _fits(16, port)
         _fits(32, width, value)
         _value(self._do(_PORT_WRITE, port, width, value))
 
     def port_read(self, port, width):
-        """A read of width bytes from a port; refusals 2, 3 and 4."""
+        """A read of width bytes from a port, data of ones while busy; refusals 2, 3 and 4."""
         _fits(16, port)
         _fits(32, width)
         return _value(self._do(_PORT_READ, port, width))
 
     def claim_memory(self, address):
-        """The window that claims a memory address, with the offset inside, or None."""
+        """The window that claims a memory address, with the offset inside, or None; always None while busy."""
         _fits(64, address)
         return _claim(self._do(_CLAIM_MEMORY, address & 0xFFFFFFFF, address >> 32))
 
     def claim_port(self, port):
-        """The window that claims an I/O port, with the offset inside, or None."""
+        """The window that claims an I/O port, with the offset inside, or None; always None while busy."""
         _fits(16, port)
         return _claim(self._do(_CLAIM_PORT, port))
 
     def image(self):
-        """The 256 bytes as a guest reads them."""
+        """The 256 bytes as a guest reads them, FF all of them while busy."""
         return b"".join(self.read(offset, 0xF).to_bytes(4, "little") for offset in range(0, 256, 4))
 
     def walk(self, wanted):
-        """A capability walk over the function's own bytes as a guest reads them; refusals 10 and 11, with their count."""
+        """A capability walk over the function's own bytes as a guest reads them, FF all of them while busy; refusals 10 and 11, with their count."""
         _fits(8, wanted)
         return _found(self._do(_WALK, wanted))
 

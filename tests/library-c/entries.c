@@ -41,7 +41,7 @@ static void layout(void)
     CHECK(bytes[257], 0xDC);
     CHECK(bytes[258], 0xFE);
     CHECK(bytes[259], 0x80);
-    CHECK(bytes[260] + bytes[261] + bytes[262], 0);
+    CHECK(bytes[260] + bytes[261] + bytes[262] + bytes[263], 0);
     twin_guest_write(&s, 0x2C, 0x1, 0);
     CHECK(bytes[260], 1);
     CHECK(bytes[261] + bytes[262], 0);
@@ -55,6 +55,11 @@ static void layout(void)
     twin_guest_write(&s, 0xFC, 0xF, 0x44332211);
     CHECK(bytes[0xFC], 0x11);
     CHECK(bytes[0xFF], 0x44);
+    twin_guest_write(&s, 0xA8, 0x1, 1);
+    CHECK(bytes[263], 1);
+    CHECK(s.busy, 1);
+    twin_end_signal(&s);
+    CHECK(bytes[263], 0);
 }
 
 static void access_examples(void)
@@ -86,22 +91,31 @@ static void access_examples(void)
     CHECK(twin_guest_read(&s, 0x60, 0x4).value, 0x00F20000);
     twin_guest_write(&s, 0x2C, 0x3, 0x1234);
     twin_guest_write(&s, 0xA8, 0x1, 1);
+    twin_end_signal(&s);
     twin_guest_write(&s, 0x2C, 0x3, 0xFFFF);
     CHECK(twin_guest_read(&s, 0x2C, 0x3).value, 0x1234);
     CHECK(twin_guest_read(&s, 0x00, 0x0).value, 0);
 }
 
-// The same example through each of the three ways to write.
+// The three ways to write.
+enum { WAYS = 3 };
+
+static uint64_t write_by(int way, twin_state *s, uint32_t offset, uint32_t lanes, uint32_t value)
+{
+    switch (way) {
+    case 0: return twin_write(s, offset, lanes, value);
+    case 1: return twin_write_by_value(s, offset, lanes, value);
+    default: return twin_do(s, TWIN_DO_WRITE, offset, lanes, value);
+    }
+}
+
+// The same example through each of them.
 static void three_writes(void)
 {
-    for (int way = 0; way < 3; way++) {
+    for (int way = 0; way < WAYS; way++) {
         twin_state s = fresh();
-        for (unsigned value = 0x12; value <= 0x34; value += 0x22)
-            switch (way) {
-            case 0: CHECK(twin_write(&s, 0x2C, 0x1, value), 0); break;
-            case 1: CHECK(twin_write_by_value(&s, 0x2C, 0x1, value), 0); break;
-            default: CHECK(twin_do(&s, TWIN_DO_WRITE, 0x2C, 0x1, value), 0); break;
-            }
+        CHECK(write_by(way, &s, 0x2C, 0x1, 0x12), 0);
+        CHECK(write_by(way, &s, 0x2C, 0x1, 0x34), 0);
         CHECK(read_dword(&s, 0x2C), 0x12);
     }
 }
@@ -222,8 +236,254 @@ static void walks(void)
     CHECK(i.count, 0);
 }
 
-// Every way to be refused leaves every byte of the record, and nothing beside the number but the walk's count.
-static void refusals(void)
+// ---- the function reset
+
+static int same(const twin_state *a, const twin_state *b) { return memcmp(a, b, sizeof *a) == 0; }
+
+// Every bit is 1 that a guest or the host can make so, but AFCTL's; every field is closed, and the latch names AFCTL.
+static twin_state used(void)
+{
+    twin_state s = fresh();
+    for (uint32_t offset = 0; offset < 256; offset += 4)
+        if (offset != 0xA8)
+            twin_guest_write(&s, offset, 0xF, 0xFFFFFFFF);
+    for (uint32_t at = 0; at < 256; at++)
+        for (int place = 0; place < 8; place++)
+            twin_host_update(&s, at, (uint8_t)(1 << place), 0xFF);
+    twin_port_write(&s, 0xCF8, 4, 0x800010A8);
+    return s;
+}
+
+// That state with a function reset that runs.
+static twin_state used_and_busy(uint8_t busy)
+{
+    twin_state s = used();
+    s.busy = busy;
+    return s;
+}
+
+// A start changes the busy byte alone, in every way to write.
+static void starts(void)
+{
+    for (int way = 0; way <= WAYS; way++) {
+        twin_state s = used(), wanted = s;
+        wanted.busy = 1;
+        if (way < WAYS)
+            CHECK(write_by(way, &s, 0xA8, 0x1, 1), 0);
+        else
+            CHECK(twin_port_write(&s, 0xCFC, 1, 1), 0);
+        CHECK(same(&s, &wanted), 1);
+    }
+
+    static const struct {
+        uint32_t lanes, value;
+        uint8_t busy;
+    } rows[] = { { 0x0, 1, 0 }, { 0xE, 0xFFFFFFFF, 0 }, { 0xF, 0xFFFFFFFE, 0 }, { 0x1, 0, 0 }, { 0x1, 0xFFFFFFFF, 1 }, { 0xF, 1, 1 } };
+    for (size_t i = 0; i < sizeof rows / sizeof *rows; i++)
+        for (int way = 0; way < WAYS; way++) {
+            twin_state s = used(), wanted = s;
+            wanted.busy = rows[i].busy;
+            CHECK(write_by(way, &s, 0xA8, rows[i].lanes, rows[i].value), 0);
+            CHECK(same(&s, &wanted), 1);
+        }
+}
+
+// What each dword reads before the start and after the end; dwords that are not listed read 0.
+static void ends(void)
+{
+    static const struct {
+        uint32_t offset, before, after;
+    } rows[] = {
+        { 0x00, 0xFFFF8086, 0xFFFF8086 }, { 0x04, 0x00980407, 0x00980000 }, { 0x08, 0xFFFF00FF, 0xFFFF00FF },
+        { 0x10, 0xFFC00004, 0x00000004 }, { 0x14, 0xFFFFFFFF, 0x00000000 }, { 0x18, 0xE000000C, 0x0000000C },
+        { 0x1C, 0xFFFFFFFF, 0x00000000 }, { 0x20, 0x0000FFC1, 0x00000001 }, { 0x2C, 0xFFFFFFFF, 0xFFFFFFFF },
+        { 0x34, 0x000000D0, 0x000000D0 }, { 0x3C, 0x000001FF, 0x000001FF }, { 0x40, 0x010C0009, 0x010C0009 },
+        { 0x44, 0xFFFFFFFF, 0xFFFFFFFF }, { 0x48, 0xFFFFFFFF, 0xFFFFFFFF }, { 0x50, 0x0000FFFF, 0x0000FFFF },
+        { 0x54, 0xFFFFFFFF, 0xFFFFFFFF }, { 0x5C, 0xFFFFFFFF, 0xFFFFFFFF }, { 0x60, 0x01F6FFFF, 0x01F60000 },
+        { 0x7C, 0x01000000, 0x01000000 }, { 0x90, 0x0071D005, 0x0000D005 }, { 0x94, 0xFFFFFFFC, 0x00000000 },
+        { 0x98, 0x0000FFFF, 0x00000000 }, { 0xA4, 0x03060013, 0x03060013 }, { 0xD0, 0x0022A401, 0x0022A401 },
+        { 0xD4, 0x00000003, 0x00000000 }, { 0xE0, 0x0000FFFF, 0x0000FFFF }, { 0xE4, 0xFFFFFFFF, 0xFFFFFFFF },
+        { 0xE8, 0x0000FFFF, 0x0000FFFF }, { 0xFC, 0xFFFFFFFF, 0xFFFFFFFF },
+    };
+    static const uint8_t busy[] = { 1, 7, 0x80, 0xFF };
+    for (size_t i = 0; i < sizeof busy; i++) {
+        twin_state s = used_and_busy(busy[i]), door = s;
+        twin_end_signal(&s);
+        CHECK(twin_do(&door, TWIN_DO_END_SIGNAL, 0xFFFFFFFF, 0x12345678, 0x9ABCDEF0), 0);
+        CHECK(same(&s, &door), 1);
+        twin_state before = used();
+        for (uint32_t offset = 0, row = 0; offset < 256; offset += 4) {
+            int listed = row < sizeof rows / sizeof *rows && rows[row].offset == offset;
+            CHECK(read_dword(&before, offset), listed ? rows[row].before : 0);
+            CHECK(read_dword(&s, offset), listed ? rows[row].after : 0);
+            row += listed;
+        }
+        CHECK(s.latch, 0x800010A8);
+        CHECK(s.closed.svid2 + s.closed.sid2 + s.closed.swsci15, 3);
+        CHECK(s.busy, 0);
+        twin_state again = s; // not busy: nothing changes
+        twin_end_signal(&s);
+        CHECK(same(&s, &again), 1);
+    }
+
+    // where no reset runs, F bits and a foreign AFCTL bit stay; an end clears that bit and no other of its byte
+    twin_state s = used();
+    s.bytes[0xA8] = 0xFF;
+    twin_state before = s;
+    CHECK(twin_do(&s, TWIN_DO_END_SIGNAL, 0, 0, 0), 0);
+    CHECK(same(&s, &before), 1);
+    CHECK(twin_guest_write(&s, 0xA8, 0x1, 1), 0);
+    CHECK(s.bytes[0xA8], 0xFF);
+    twin_end_signal(&s);
+    CHECK(s.bytes[0xA8], 0xFE);
+
+    // a platform reset ends it too
+    const twin_state none = fresh();
+    s = used_and_busy(7);
+    twin_platform_reset(&s);
+    CHECK(same(&s, &none), 1);
+    s = used_and_busy(1);
+    CHECK(twin_do(&s, TWIN_DO_PLATFORM_RESET, 0, 0, 0), 0);
+    CHECK(same(&s, &none), 1);
+}
+
+// Reads of a busy function: ones, whatever it holds.
+static void busy_reads(uint8_t busy)
+{
+    twin_state s = used_and_busy(busy);
+    memset(s.bytes, 0, sizeof s.bytes);
+    const twin_state before = s;
+    for (uint32_t offset = 0; offset < 256; offset += 4)
+        for (uint32_t lanes = 0; lanes < 16; lanes++) {
+            uint32_t ones = 0;
+            for (int lane = 0; lane < 4; lane++)
+                if (lanes >> lane & 1)
+                    ones |= (uint32_t)0xFF << 8 * lane;
+            CHECK(twin_read(&s, offset, lanes), ones);
+            CHECK(twin_do(&s, TWIN_DO_READ, offset, lanes, 0), ones);
+        }
+    CHECK(twin_guest_read(&s, 0xA8, 0x1).number, 0);
+    CHECK(twin_guest_read(&s, 0xA8, 0x1).value, 0xFF);
+    CHECK(twin_port_read(&s, 0xCFC, 4).value, 0xFFFFFFFF);
+    CHECK(twin_port_read(&s, 0xCFC, 2).value, 0xFFFF);
+    CHECK(twin_port_read(&s, 0xCFE, 2).value, 0xFFFF);
+    CHECK(twin_port_read(&s, 0xCFC, 1).value, 0xFF);
+    CHECK(twin_port_read(&s, 0xCFF, 1).value, 0xFF);
+    CHECK(twin_port_read(&s, 0xCFF, 1).number, 0);
+    CHECK(twin_do(&s, TWIN_DO_PORT_READ, 0xCFD, 2, 0), 0xFFFF);
+    CHECK(twin_port_read(&s, 0xCF8, 4).value, 0x800010A8);
+
+    uint8_t image[256], ones[256];
+    memset(ones, 0xFF, sizeof ones);
+    twin_image(&s, image);
+    CHECK(memcmp(image, ones, sizeof ones), 0);
+    twin_item i = twin_find(&s, 0x13); // FF leads to FC, which leads to itself
+    CHECK(i.number, TWIN_ENDLESS);
+    CHECK(i.found, false);
+    CHECK(i.offset, 0);
+    CHECK(i.count, 48);
+    i = twin_find(&s, 0xFF);
+    CHECK(i.number, 0);
+    CHECK(i.found, true);
+    CHECK(i.offset, 0xFC);
+    CHECK(i.count, 1);
+    CHECK(twin_do(&s, TWIN_DO_WALK, 0x05, 0, 0), (uint64_t)TWIN_ENDLESS << 48 | 48);
+    CHECK(same(&s, &before), 1);
+}
+
+// Guest writes to a busy function: accepted, and every byte of the record stays, the busy byte too.
+static void busy_writes(uint8_t busy)
+{
+    static const uint32_t values[] = { 0, 1, 0x5A5A5A5A, 0xFFFFFFFF };
+    twin_state s = used_and_busy(busy);
+    memset(&s.closed, 0, sizeof s.closed);
+    const twin_state before = s;
+    for (uint32_t offset = 0; offset < 256; offset += 4)
+        for (size_t i = 0; i < sizeof values / sizeof *values; i++) {
+            for (int way = 0; way < WAYS; way++) {
+                CHECK(write_by(way, &s, offset, 0xF, values[i]), 0);
+                CHECK(write_by(way, &s, offset, 0x1, values[i]), 0);
+            }
+            CHECK(same(&s, &before), 1);
+
+            twin_state wanted = before; // the same through the port pair, whose latch is stored
+            wanted.latch = 0x80001000 | offset;
+            CHECK(twin_port_write(&s, 0xCF8, 4, wanted.latch), 0);
+            CHECK(twin_port_write(&s, 0xCFC, 4, values[i]), 0);
+            CHECK(twin_port_write(&s, 0xCFE, 2, values[i]), 0);
+            CHECK(twin_do(&s, TWIN_DO_PORT_WRITE, 0xCFC, 1, values[i]), 0);
+            CHECK(same(&s, &wanted), 1);
+            s = before;
+        }
+
+    // a dropped write closes nothing: the first one behind the end does
+    s = fresh();
+    twin_guest_write(&s, 0xA8, 0x1, 1);
+    CHECK(twin_guest_write(&s, 0x2C, 0xF, 0x11111111), 0);
+    CHECK(twin_guest_write(&s, 0xE8, 0xF, 0x0000FFFF), 0);
+    twin_end_signal(&s);
+    CHECK(s.closed.svid2 + s.closed.sid2 + s.closed.swsci15, 0);
+    CHECK(read_dword(&s, 0x2C), 0);
+    CHECK(read_dword(&s, 0xE8), 0);
+    twin_guest_write(&s, 0x2C, 0x3, 0x1234);
+    twin_guest_write(&s, 0x2C, 0x3, 0xFFFF);
+    CHECK(read_dword(&s, 0x2C), 0x1234);
+}
+
+// The host's updates and the latch work on a busy function, and leave the busy byte.
+static void busy_host(uint8_t busy)
+{
+    twin_state s = used_and_busy(busy), wanted = s;
+    CHECK(twin_host_update(&s, 0x08, 0x0F, 0xA5), 0);
+    wanted.bytes[0x08] = 0xF5;
+    CHECK(same(&s, &wanted), 1);
+    CHECK(twin_do(&s, TWIN_DO_HOST_UPDATE, 0x5C, 0xFF, 0x42), 0);
+    wanted.bytes[0x5C] = 0x42;
+    CHECK(same(&s, &wanted), 1);
+    CHECK(twin_port_write(&s, 0xCF8, 4, 0xFFFFFFFF), 0);
+    wanted.latch = 0x80FFFFFC;
+    CHECK(same(&s, &wanted), 1);
+    CHECK(twin_port_read(&s, 0xCF8, 4).value, 0x80FFFFFC);
+    twin_end_signal(&s);
+    CHECK(twin_guest_read(&s, 0x08, 0x1).value, 0xF5);
+    CHECK(twin_guest_read(&s, 0x5C, 0x1).value, 0x42);
+    CHECK(s.latch, 0x80FFFFFC);
+}
+
+// A busy function claims nothing, though its windows stand as they did.
+static void busy_claims(uint8_t busy)
+{
+    twin_state s = fresh();
+    twin_guest_write(&s, 0x04, 0x1, 0x03);
+    twin_guest_write(&s, 0x10, 0xF, 0x00400000);
+    twin_guest_write(&s, 0x18, 0xF, 0xF0000000);
+    twin_guest_write(&s, 0x20, 0xF, 0x0000E040);
+    for (int round = 0; round < 2; round++) {
+        s.busy = 0;
+        CHECK(twin_claim_memory(&s, 0x00400123).window, TWIN_TRANSLATION);
+        CHECK(twin_claim_memory(&s, 0xF0000123).window, TWIN_APERTURE);
+        CHECK(twin_claim_port(&s, 0xE041).window, TWIN_IO);
+        s.busy = busy;
+        const twin_state before = s;
+        CHECK(twin_claim_memory(&s, 0x00400123).window, TWIN_UNCLAIMED);
+        CHECK(twin_claim_memory(&s, 0x00400123).offset, 0);
+        CHECK(twin_do(&s, TWIN_DO_CLAIM_MEMORY, 0xF0000123, 0, 0), 0);
+        CHECK(twin_do(&s, TWIN_DO_CLAIM_MEMORY, 0xFFFFFFFF, 0xFFFFFFFF, 0), 0);
+        CHECK(twin_claim_port(&s, 0xE041).window, TWIN_UNCLAIMED);
+        CHECK(twin_do(&s, TWIN_DO_CLAIM_PORT, 0xE041, 0, 0), 0);
+        CHECK(twin_do(&s, TWIN_DO_CLAIM_PORT, 0xFFFF, 0, 0), 0);
+        CHECK(same(&s, &before), 1);
+    }
+    twin_end_signal(&s); // PCICMD2 is 0 now
+    CHECK(twin_claim_memory(&s, 0x00400123).window, TWIN_UNCLAIMED);
+    CHECK(twin_claim_port(&s, 0xE041).window, TWIN_UNCLAIMED);
+    CHECK(twin_size_probe(0xF000000C, 0xFFFFFFFF).exponent, 28); // no state has a say here
+}
+
+// ---- refusals
+
+// Every way to be refused leaves every byte of the record, and nothing beside the number but the walk's count. A busy function refuses no other way.
+static void refusals(uint8_t busy)
 {
     static const struct {
         uint32_t op, a, b, c;
@@ -236,22 +496,28 @@ static void refusals(void)
         { TWIN_DO_PORT_WRITE, 0xCFC, 3, 0, 2 }, { TWIN_DO_PORT_WRITE, 0xCF8, 2, 0, 3 }, { TWIN_DO_PORT_WRITE, 0x10CF8, 4, 0, 9 },
         { TWIN_DO_PORT_READ, 0xD00, 1, 0, 3 }, { TWIN_DO_PORT_READ, 0xCFC, 4, 0, 3 }, { TWIN_DO_PORT_READ, 0x10000, 4, 0, 9 },
         { TWIN_DO_CLAIM_PORT, 0x10000, 0, 0, 9 }, { TWIN_DO_PROBE, 2, 0, 0, 8 }, { TWIN_DO_WALK, 0x100, 0, 0, 9 },
-        { 10, 0, 0, 0, 9 }, { 0x100, 0, 0, 0, 9 }, { 0xFFFFFFFF, 0, 0, 0, 9 },
+        { 11, 0, 0, 0, 9 }, { 12, 0, 0, 0, 9 }, { 0x100, 0, 0, 0, 9 }, { 0x10A, 0, 0, 0, 9 }, { 0x8000000A, 0, 0, 0, 9 }, { 0xFFFFFFFF, 0, 0, 0, 9 },
     };
     twin_state s = fresh();
-    uint8_t before[sizeof s];
-    ((uint8_t *)&s)[263] = 0x5A; // the padding
-    memcpy(before, &s, sizeof s);
+    s.busy = busy;
+    twin_state before = s;
     for (size_t i = 0; i < sizeof rows / sizeof *rows; i++) {
         CHECK(twin_do(&s, rows[i].op, rows[i].a, rows[i].b, rows[i].c), rows[i].result << 48);
-        CHECK(memcmp(&s, before, sizeof s), 0);
+        CHECK(same(&s, &before), 1);
     }
     CHECK(twin_write(&s, 0x2D, 0xF, 0), TWIN_OFFSET);
     CHECK(twin_write(&s, 0x2C, 0x10, 0), TWIN_LANES);
     CHECK(twin_write_by_value(&s, 0x2D, 0xF, 0), TWIN_OFFSET);
     CHECK(twin_write_by_value(&s, 0x2C, 0x10, 0), TWIN_LANES);
     CHECK(twin_read(&s, 0x2D, 0xF), (uint64_t)TWIN_OFFSET << 48);
-    CHECK(memcmp(&s, before, sizeof s), 0);
+    CHECK(same(&s, &before), 1);
+
+    twin_port_write(&s, 0xCF8, 4, 0x80001100); // another function
+    before = s;
+    CHECK(twin_port_write(&s, 0xCFC, 4, 1), TWIN_OTHER_FUNCTION);
+    CHECK(twin_port_read(&s, 0xCFC, 4).number, TWIN_OTHER_FUNCTION);
+    CHECK(twin_port_read(&s, 0xCFC, 4).value, 0);
+    CHECK(same(&s, &before), 1);
 }
 
 int main(void)
@@ -264,7 +530,17 @@ int main(void)
     claims();
     probes();
     walks();
-    refusals();
+    starts();
+    ends();
+    static const uint8_t busy[] = { 1, 7, 0xFF };
+    for (size_t i = 0; i < sizeof busy; i++) {
+        busy_reads(busy[i]);
+        busy_writes(busy[i]);
+        busy_host(busy[i]);
+        busy_claims(busy[i]);
+        refusals(busy[i]);
+    }
+    refusals(0);
     printf("%u checks, %u failed\n", checks, failures);
     return failures != 0;
 }

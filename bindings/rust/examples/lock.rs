@@ -6,7 +6,9 @@ fn main() -> Result<(), Refusal> {
     let mut t = Twin::fresh();
     t.write(0x2C, 0x3, 0x1234)?; // SVID2 is written, and closed
     println!("locked: {:04X}", t.read(0x2C, 0x3)?);
-    t.write(0xA8, 0x1, 0x0001)?; // a function reset
+    t.write(0xA8, 0x1, 0x0001)?; // starts a function reset
+    println!("while a reset runs: {:04X}", t.read(0x2C, 0x3)?);
+    t.end_signal(); // the host's part
     t.write(0x2C, 0x3, 0xFFFF)?; // accepted, and changes nothing
     println!(
         "after a reset and another write: {:04X}",

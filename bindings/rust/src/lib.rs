@@ -6,7 +6,9 @@
 //!
 //! let mut t = Twin::fresh();
 //! t.write(0x2C, 0x3, 0x1234)?; // SVID2 is written, and closed
-//! t.write(0xA8, 0x1, 0x0001)?; // a function reset
+//! t.write(0xA8, 0x1, 0x0001)?; // starts a function reset
+//! assert_eq!(t.read(0x2C, 0x3), Ok(0xFFFF)); // busy: every byte reads FF
+//! t.end_signal(); // ends it
 //! t.write(0x2C, 0x3, 0xFFFF)?; // accepted, and changes nothing
 //! assert_eq!(t.read(0x2C, 0x3), Ok(0x1234));
 //! # Ok::<(), twin::Refusal>(())
@@ -54,6 +56,7 @@ const PORT_READ: u32 = 5;
 const CLAIM_MEMORY: u32 = 6;
 const CLAIM_PORT: u32 = 7;
 const WALK: u32 = 9;
+const END_SIGNAL: u32 = 10;
 
 /// Why an access was refused. A refusal changes nothing.
 #[derive(Clone, Copy, Debug, PartialEq, Eq, Hash)]
@@ -187,6 +190,12 @@ pub struct Closed {
 }
 
 /// The whole state of the function. Every pattern of bytes is a state.
+///
+/// A write of 1 to AFCTL bit 0 starts a function reset, and
+/// [`Twin::end_signal`] or a platform reset ends it. Between the two the
+/// function is busy: guest reads give FF in enabled lanes, guest writes are
+/// accepted and dropped, both through the port pair too, and nothing is
+/// claimed. Host updates and the port latch work, and refusals are the same.
 #[repr(C)]
 #[derive(Clone, Copy, Debug, PartialEq, Eq, Hash)]
 pub struct Twin {
@@ -197,6 +206,10 @@ pub struct Twin {
     pub latch: u32,
     /// Which write-once fields are closed.
     pub closed: Closed,
+    /// Whether a function reset runs: 0 where none does, any other number
+    /// where one does; see [`Twin::is_busy`]. In a record that was stored by a
+    /// program without a busy byte it is undefined: set it to 0.
+    pub busy: u8,
 }
 
 // Where each field stands is tested (tests/paper.rs).
@@ -209,7 +222,7 @@ impl Default for Twin {
 }
 
 impl Twin {
-    /// The fresh state: defaults, fields open, latch 0.
+    /// The fresh state: defaults, fields open, latch 0, not busy.
     pub fn fresh() -> Twin {
         let mut t = Twin {
             bytes: [0; 256],
@@ -219,6 +232,7 @@ impl Twin {
                 sid2: 0,
                 swsci15: 0,
             },
+            busy: 0,
         };
         t.platform_reset();
         t
@@ -232,7 +246,8 @@ impl Twin {
 
     /// A guest write of the lanes' bytes at `offset`; refusals 5 and 6.
     /// Lanes is 0 to 15, bit i for byte offset + i. Writing 1 to AFCTL bit 0
-    /// performs the function reset within the write.
+    /// starts a function reset; until its end the function is busy, and a
+    /// write is accepted and dropped.
     ///
     /// ```
     /// # use twin::{Refusal, Twin};
@@ -246,11 +261,37 @@ impl Twin {
         accepted(unsafe { raw::twin_write(self, offset, lanes, value) }.into())
     }
 
-    /// A guest read: each enabled byte in its place and 00 in the others;
-    /// refusals 5 and 6.
+    /// A guest read: each enabled byte in its place, FF while busy, and 00 in
+    /// the others; refusals 5 and 6.
     pub fn read(&self, offset: u32, lanes: u32) -> Result<u32, Refusal> {
         // SAFETY: the record is whole, aligned, and only read.
         value(unsafe { raw::twin_read(self, offset, lanes) })
+    }
+
+    /// The host's end signal: it ends the function reset that runs, and gives
+    /// the F bits and AFCTL bit 0 their defaults. Where none runs it changes
+    /// nothing.
+    ///
+    /// ```
+    /// # use twin::Twin;
+    /// let mut t = Twin::fresh();
+    /// t.write(0x04, 0x1, 0x07)?;
+    /// t.write(0xA8, 0x1, 0x01)?;
+    /// assert!(t.is_busy());
+    /// assert_eq!(t.read(0xA8, 0x1), Ok(0xFF));
+    /// t.end_signal();
+    /// assert!(!t.is_busy());
+    /// assert_eq!(t.read(0xA8, 0x1), Ok(0x00));
+    /// assert_eq!(t.read(0x04, 0x1), Ok(0x00));
+    /// # Ok::<(), twin::Refusal>(())
+    /// ```
+    pub fn end_signal(&mut self) {
+        self.perform(END_SIGNAL, 0, 0, 0);
+    }
+
+    /// Whether a function reset runs. The host knows it; a guest reads ones.
+    pub fn is_busy(&self) -> bool {
+        self.busy != 0
     }
 
     /// A host update of the masked bits of one byte; refusals 5 and 7.
@@ -267,12 +308,14 @@ impl Twin {
     }
 
     /// A write of `width` bytes to a port; refusals 2, 3 and 4. 4 bytes at
-    /// CF8h store the latch, data goes to the dword that it names.
+    /// CF8h store the latch, data goes to the dword that it names, and is
+    /// dropped while busy.
     pub fn port_write(&mut self, port: u16, width: u32, value: u32) -> Result<(), Refusal> {
         accepted(self.perform(PORT_WRITE, port.into(), width, value) >> 48)
     }
 
-    /// A read of `width` bytes from a port; refusals 2, 3 and 4.
+    /// A read of `width` bytes from a port, data of ones while busy; refusals
+    /// 2, 3 and 4.
     ///
     /// ```
     /// # use twin::{Refusal, Twin};
@@ -286,7 +329,7 @@ impl Twin {
         value(self.look(PORT_READ, port.into(), width))
     }
 
-    /// Which window claims a memory address.
+    /// Which window claims a memory address; none while busy.
     ///
     /// ```
     /// # use twin::{Claim, Twin};
@@ -301,12 +344,12 @@ impl Twin {
         claim(self.look(CLAIM_MEMORY, address as u32, (address >> 32) as u32))
     }
 
-    /// Which window claims an I/O port.
+    /// Which window claims an I/O port; none while busy.
     pub fn claim_port(&self, port: u16) -> Option<Claim> {
         claim(self.look(CLAIM_PORT, port.into(), 0))
     }
 
-    /// The 256 bytes as a guest reads them.
+    /// The 256 bytes as a guest reads them, FF all of them while busy.
     pub fn image(&self) -> [u8; 256] {
         let mut image = [0; 256];
         for (offset, bytes) in (0..).step_by(4).zip(image.chunks_exact_mut(4)) {
@@ -316,7 +359,8 @@ impl Twin {
         image
     }
 
-    /// A capability walk over the function's own bytes as a guest reads them.
+    /// A capability walk over the function's own bytes as a guest reads them,
+    /// FF all of them while busy.
     ///
     /// ```
     /// # use twin::{Twin, Walk};

@@ -13,7 +13,7 @@ fn after(writes: &[(u32, u32, u32)]) -> Twin {
     t
 }
 
-/// All bytes of a record, its padding too.
+/// All bytes of a record.
 #[repr(C, align(4))]
 #[derive(Clone, Copy, PartialEq, Eq, Debug)]
 struct Lent([u8; 264]);
@@ -34,6 +34,7 @@ fn places() {
     assert_eq!(from(&t.closed.svid2), 260);
     assert_eq!(from(&t.closed.sid2), 261);
     assert_eq!(from(&t.closed.swsci15), 262);
+    assert_eq!(from(&t.busy), 263);
 }
 
 #[test]
@@ -46,12 +47,13 @@ fn layout() {
         raw::twin_do(t, 4, 0xCF8, 4, 0x80FEDCB8); // the latch
         raw::twin_write(t, 0x2C, 0x8, 0xAB000000); // SID2
         raw::twin_write(t, 0xFC, 0xF, 0x44332211); // ASLS
+        raw::twin_write(t, 0xA8, 0x1, 0x00000001); // AFCTL
     }
     assert_eq!(lent.0[0x00..0x04], [0x86, 0x80, 0x52, 0x01]);
     assert_eq!(lent.0[0x2C..0x30], [0, 0, 0, 0xAB]);
     assert_eq!(lent.0[0xFC..0x100], [0x11, 0x22, 0x33, 0x44]);
     assert_eq!(lent.0[256..260], [0xB8, 0xDC, 0xFE, 0x80]);
-    assert_eq!(lent.0[260..263], [0, 1, 0]);
+    assert_eq!(lent.0[260..264], [0, 1, 0, 1]);
 }
 
 #[test]
@@ -74,12 +76,6 @@ fn reads_and_writes() {
         (&[(0xD4, 0x1, 1)], 0xD4, 0x1, 0),
         (&[(0xD4, 0x1, 1), (0xD4, 0x1, 3)], 0xD4, 0x1, 3),
         (&[(0xE8, 0x2, 0), (0xE8, 0xF, 0x8001)], 0xE8, 0xF, 1),
-        (
-            &[(0x2C, 0x3, 0x1234), (0xA8, 0x1, 1), (0x2C, 0x3, 0xFFFF)],
-            0x2C,
-            0x3,
-            0x1234,
-        ),
     ];
     for (writes, offset, lanes, value) in rows {
         assert_eq!(
@@ -88,6 +84,14 @@ fn reads_and_writes() {
             "{writes:X?}"
         );
     }
+}
+
+#[test]
+fn a_lock_holds_through_a_function_reset() {
+    let mut t = after(&[(0x2C, 0x3, 0x1234), (0xA8, 0x1, 1)]);
+    t.end_signal();
+    assert_eq!(t.write(0x2C, 0x3, 0xFFFF), Ok(()));
+    assert_eq!(t.read(0x2C, 0x3), Ok(0x1234));
 }
 
 #[test]
@@ -173,6 +177,101 @@ fn walks() {
     assert_eq!(walk(&[0; 257], 0x13), ended(Err(Refusal::Length), 0));
 }
 
+/// A twin with windows, a closed field and a function reset that runs, with a
+/// busy byte that a start leaves and with foreign ones.
+fn busy_ones() -> [Twin; 3] {
+    let t = after(&[
+        (0x04, 0x1, 0x07),
+        (0x10, 0xF, 0x00400000),
+        (0x20, 0xF, 0xE040),
+        (0x2C, 0x3, 0x1234),
+        (0x3C, 0x1, 0x0B),
+        (0xA8, 0x1, 0x01),
+    ]);
+    assert_eq!((t.busy, t.is_busy()), (1, true));
+    [t, Twin { busy: 7, ..t }, Twin { busy: 0xFF, ..t }]
+}
+
+#[test]
+fn a_start_changes_the_busy_byte_alone() {
+    for t in busy_ones() {
+        let mut idle = Twin { busy: 0, ..t };
+        assert_eq!(idle.write(0xA8, 0xF, 0xFFFFFFFF), Ok(()));
+        assert_eq!(idle, Twin { busy: 1, ..t });
+    }
+    let idle = Twin::fresh();
+    for (lanes, value) in [(0x0, 1), (0xE, 0xFFFFFFFF), (0x1, 0), (0xF, 0xFFFFFFFE)] {
+        assert_eq!(after(&[(0xA8, lanes, value)]), idle);
+    }
+}
+
+#[test]
+fn an_end_returns_the_f_bits_and_no_others() {
+    for mut t in busy_ones() {
+        t.port_write(0xCF8, 4, 0x80001004).unwrap();
+        t.bytes[0xA8] = 0x81; // of foreign making
+        let before = t;
+        t.end_signal();
+        assert!(!t.is_busy());
+        let mut wanted = Twin { busy: 0, ..before };
+        for (at, byte) in [(0x04, 0), (0x12, 0), (0x20, 0x01), (0x21, 0), (0xA8, 0x80)] {
+            wanted.bytes[at] = byte;
+        }
+        assert_eq!(t, wanted);
+    }
+    let mut idle = after(&[(0x04, 0x1, 0x07)]);
+    let before = idle;
+    idle.end_signal();
+    assert_eq!(idle, before);
+}
+
+#[test]
+fn a_busy_function_reads_ones_and_drops_writes() {
+    for mut t in busy_ones() {
+        let before = t;
+        assert_eq!(t.read(0x00, 0xF), Ok(0xFFFFFFFF));
+        assert_eq!(t.read(0xA8, 0x5), Ok(0x00FF00FF));
+        assert_eq!(t.read(0xA8, 0x0), Ok(0));
+        assert_eq!(t.image(), [0xFF; 256]);
+        let ended = |found, count| Walk { found, count };
+        assert_eq!(t.walk(0x13), ended(Err(Refusal::Endless), 48));
+        assert_eq!(t.walk(0xFF), ended(Ok(Some(0xFC)), 1));
+        for offset in (0..256).step_by(4) {
+            assert_eq!(t.write(offset, 0xF, 0x00000000), Ok(()));
+            assert_eq!(t.write(offset, 0xF, 0xFFFFFFFF), Ok(()));
+        }
+        assert_eq!(t.read(0x00, 0x10), Err(Refusal::Lanes));
+        assert_eq!(t.write(0x01, 0xF, 0), Err(Refusal::Offset));
+        assert_eq!(t, before);
+
+        assert_eq!(t.port_read(0xCFC, 4), Err(Refusal::NotOurs));
+        assert_eq!(t.port_write(0xCF8, 4, 0x8000102C), Ok(()));
+        assert_eq!(t.port_read(0xCF8, 4), Ok(0x8000102C));
+        assert_eq!(t.port_read(0xCFE, 2), Ok(0xFFFF));
+        assert_eq!(t.port_read(0xCFF, 1), Ok(0xFF));
+        assert_eq!(t.port_write(0xCFE, 2, 0x5678), Ok(()));
+        let latch = 0x8000102C;
+        assert_eq!(t, Twin { latch, ..before });
+    }
+}
+
+#[test]
+fn a_busy_function_claims_nothing_and_hears_its_host() {
+    for mut t in busy_ones() {
+        let idle = Twin { busy: 0, ..t };
+        assert_eq!(idle.claim_memory(0x400010), Some(Claim::Translation(0x10)));
+        assert_eq!(idle.claim_port(0xE041), Some(Claim::Io(1)));
+        assert_eq!(t.claim_memory(0x400010), None);
+        assert_eq!(t.claim_port(0xE041), None);
+        let busy = t.busy;
+        assert_eq!(t.host_update(0x08, 0xFF, 0x09), Ok(()));
+        assert_eq!(t.host_update(0x2C, 0x01, 0x01), Err(Refusal::NotHost));
+        assert_eq!((t.bytes[0x08], t.busy), (0x09, busy));
+        t.platform_reset();
+        assert_eq!(t, Twin::fresh());
+    }
+}
+
 #[test]
 fn refusals_leave_every_byte() {
     let rows = [
@@ -193,27 +292,31 @@ fn refusals_leave_every_byte() {
         (7, 0x10000, 0, 0, 9),
         (8, 2, 0, 0, 8),
         (9, 0x100, 0, 0, 9),
-        (10, 0, 0, 0, 9),
+        (11, 0, 0, 0, 9),
+        (0x10A, 0, 0, 0, 9),
         (u32::MAX, 0, 0, 0, 9),
     ];
-    let mut lent = Lent([0x5A; 264]); // a record of foreign making
-    let before = lent;
-    for (op, a, b, c, number) in rows {
-        // SAFETY: a whole record, aligned, used here alone.
-        let result = unsafe { raw::twin_do(lent.record(), op, a, b, c) };
-        assert_eq!(result, number << 48, "operation {op}");
-        assert_eq!(lent, before, "operation {op}");
-    }
-    for (offset, lanes, number) in [(0x2D, 0xF, 5), (0x2C, 0x10, 6)] {
-        // SAFETY: as above.
-        let (there, by_value) = unsafe {
-            (
-                raw::twin_write(lent.record(), offset, lanes, 0),
-                raw::twin_write_by_value(lent.record(), offset, lanes, 0),
-            )
-        };
-        assert_eq!((there, by_value), (number, number));
-        assert_eq!(lent, before);
+    for busy in [0, 1, 0x5A] {
+        let mut lent = Lent([0x5A; 264]); // a record of foreign making
+        lent.0[263] = busy;
+        let before = lent;
+        for (op, a, b, c, number) in rows {
+            // SAFETY: a whole record, aligned, used here alone.
+            let result = unsafe { raw::twin_do(lent.record(), op, a, b, c) };
+            assert_eq!(result, number << 48, "operation {op}");
+            assert_eq!(lent, before, "operation {op}");
+        }
+        for (offset, lanes, number) in [(0x2D, 0xF, 5), (0x2C, 0x10, 6)] {
+            // SAFETY: as above.
+            let (there, by_value) = unsafe {
+                (
+                    raw::twin_write(lent.record(), offset, lanes, 0),
+                    raw::twin_write_by_value(lent.record(), offset, lanes, 0),
+                )
+            };
+            assert_eq!((there, by_value), (number, number));
+            assert_eq!(lent, before);
+        }
     }
 }
 

@@ -47,6 +47,7 @@ formed (Line (C.Write o l v)) r = ap Line (F.formed (C.Write o l v) r)
 formed (Line (C.Read o l)) r = ap Line (F.formed (C.Read o l) r)
 formed (Line (C.Host o m v)) r = ap Line (F.formed (C.Host o m v) r)
 formed (Line C.Reset) r = ap Line (F.formed C.Reset r)
+formed (Line C.End) r = ap Line (F.formed C.End r)
 formed (Line C.Bad) r = absurd r
 formed (PortWrite p w v) r = rw (printed _ 2 4 p (r .0) refl, printed _ 7 1 w (r .1) refl, printed _ 9 8 v (r .2) refl, mod-eq-of-lt (r .0), digit-fits (r .1), mod-eq-of-lt (r .2))
 formed (PortRead p w) r = rw (printed _ 2 4 p (r .0) refl, printed _ 7 1 w (r .1) refl, mod-eq-of-lt (r .0), digit-fits (r .1))

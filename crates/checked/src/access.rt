@@ -51,6 +51,14 @@ pub fn guest_read(s: State, offset: u32, lanes: u32) {
     print::text(b"\n");
 }
 
+// ---- the host's end signal
+
+// The state that it leaves; more follows in its line.
+pub fn end_signal(s: State) -> State {
+    print::text(b"E, ");
+    twin::end_signal(s)
+}
+
 // ---- the port pair
 
 fn port_write_answer(a: PortWriteAnswer) {

@@ -3,6 +3,7 @@ mod access;
 mod print;
 mod scan;
 
+use access::end_signal;
 use access::guest_read;
 use access::guest_write;
 use access::latch;
@@ -54,8 +55,9 @@ fn swsci() {
 
 fn svid2() {
     let s = guest_write(fresh(), 0x2C, 0x3, 0x00001234);
-    let reset = guest_write(s, 0xA8, 0x1, 1);
-    guest_read(guest_write(reset, 0x2C, 0x3, 0x0000FFFF), 0x2C, 0x3);
+    let started = guest_write(s, 0xA8, 0x1, 1);
+    let ended = end_signal(started);
+    guest_read(guest_write(ended, 0x2C, 0x3, 0x0000FFFF), 0x2C, 0x3);
 }
 
 fn port_pair() {

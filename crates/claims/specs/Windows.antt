@@ -4,7 +4,7 @@ use mathlib.Core.List.{List}
 use Prim.Native.Nat.{ℕ, _+_, _/_, _%_, _^_}
 use lib.ListN.{getD}
 use Rattle.bits.specs.Bits.{little}
-use Rattle.bits.specs.Choice.{if_then_else_, _is_}
+use Rattle.bits.specs.Choice.{if_then_else_, _or_, _is_}
 use Rattle.map.specs.Registers.{GTTMMADR, GMADR, IOBAR, MSAC, PMCS}
 use Rattle.rules.specs.Guest.{sizeOf, exponentOf}
 use Rattle.rules.specs.Claims.{Claimed, unclaimed, claimed, translation, aperture, io, translationExponent, ioExponent}
@@ -35,6 +35,6 @@ memoryOf m a =
 unfoldable pub ioOf : List ℕ → ℕ → Claimed
 ioOf m p = if holdsOf (registerAt 4 m IOBAR) (2 ^ ioExponent) p then claimed io (p % 2 ^ ioExponent) else unclaimed
 
--- power state 11
-abbrev pub offOf : List ℕ → Bool
-offOf m = getD m PMCS 0 % 4 is 3
+-- busy, or power state 11
+abbrev pub offOf : Bool → List ℕ → Bool
+offOf busy m = busy or getD m PMCS 0 % 4 is 3

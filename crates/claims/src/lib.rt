@@ -1,6 +1,7 @@
 // Which window claims a memory address or a port, with the offset inside.
 ghost use mathlib.Core.Path.{_≡_};
 ghost use Prim.Native.Nat.{_+_, _%_, _^_, _<_, _≤_};
+ghost use Rattle.rules.specs.Access.{up};
 ghost use Rattle.rules.specs.Claims.{memoryClaimOf, ioClaimOf};
 ghost use Rattle.rules.specs.Answers.{claimSays};
 ghost use Rattle.claims.specs.Windows.{registerAt, holdsOf, inAperture, apertureOf, memoryOf, ioOf, offOf};
@@ -105,10 +106,13 @@ fn io(m: &[u8; 256], port: u16) -> Claim
     Claim::None
 }
 
-// Power state 11 claims nothing.
-fn off(m: &[u8; 256]) -> bool
-    ensures { λ r. ⌜ r ≡ offOf (now (m .entry)) ⌝ }
+// While a function reset is under way nothing is claimed, and in power state 11.
+fn off(m: &[u8; 256], busy: u8) -> bool
+    ensures { λ r. ⌜ r ≡ offOf (up busy) (now (m .entry)) ⌝ }
 {
+    if busy != 0 {
+        return true;
+    }
     m[map::PMCS] % 4 == 3
 }
 
@@ -122,7 +126,7 @@ pub fn claim_memory(s: State, address: u64) -> Claim
     if t.bytes[map::PCICMD2] / 2 % 2 == 0 {
         return Claim::None;
     }
-    if off(&t.bytes) {
+    if off(&t.bytes, t.flags.busy) {
         return Claim::None;
     }
     memory(&t.bytes, address)
@@ -136,7 +140,7 @@ pub fn claim_port(s: State, port: u16) -> Claim
     if t.bytes[map::PCICMD2] % 2 == 0 {
         return Claim::None;
     }
-    if off(&t.bytes) {
+    if off(&t.bytes, t.flags.busy) {
         return Claim::None;
     }
     io(&t.bytes, port)

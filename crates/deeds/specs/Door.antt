@@ -7,6 +7,7 @@ use Rattle.rules.specs.Access.{Outcome, done, refused}
 use Rattle.rules.specs.Fresh.{freshOf}
 use Rattle.rules.specs.Guest.{writeOf}
 use Rattle.rules.specs.Read.{readOf, imageOf}
+use Rattle.rules.specs.Reset.{endOf}
 use Rattle.rules.specs.Host.{hostOf}
 use Rattle.rules.specs.Ports.{portReadOf, portWriteOf}
 use Rattle.rules.specs.Claims.{memoryClaimOf, ioClaimOf}
@@ -41,7 +42,7 @@ portDeed s a = upTo 65535 a s (leaves (claimReply (ioClaimOf s a)) s)
 unfoldable pub walkDeed : State → ℕ → Outcome
 walkDeed s a = upTo 255 a s (leaves (walkReply (walkOf (imageOf s) a)) s)
 
--- an operation's number and three arguments; those that it has no use for have no say. 0 is a platform reset, 1 a guest write, 2 a guest read, 3 a host update, 4 a port write, 5 a port read, 6 and 7 the claim of a memory address and of a port, 8 a size probe, 9 a capability walk
+-- an operation's number and three arguments; those that it has no use for have no say. 0 is a platform reset, 1 a guest write, 2 a guest read, 3 a host update, 4 a port write, 5 a port read, 6 and 7 the claim of a memory address and of a port, 8 a size probe, 9 a capability walk, 10 the end signal
 unfoldable pub doorOf : State → ℕ → ℕ → ℕ → ℕ → Outcome
 doorOf s op a b c =
     if op is 0 then done freshOf
@@ -54,6 +55,7 @@ doorOf s op a b c =
     else if op is 7 then portDeed s a
     else if op is 8 then leaves (probeReply (probeOf a b)) s
     else if op is 9 then walkDeed s a
+    else if op is 10 then done (endOf s)
     else refused LINE s
 
 -- ---- what the code's record says

@@ -7,11 +7,12 @@ ghost use Rattle.rules.specs.Answers.{writeSays};
 ghost use Rattle.rules.specs.Fresh.{freshOf};
 ghost use Rattle.rules.specs.Guest.{writeOf};
 ghost use Rattle.rules.specs.Read.{readOf};
+ghost use Rattle.rules.specs.Reset.{endOf};
 ghost use Rattle.probe.specs.Probe.{probeOf};
 ghost use Rattle.writes.specs.Bytes.{lent, writeLanes};
 ghost use Rattle.tells.specs.Told.{heard, leaves, probeReply};
 ghost use Rattle.deeds.specs.Door.{did, hostDeed, portWriteDeed, portReadDeed, memoryDeed, portDeed, walkDeed, doorOf};
-use rules::Closed;
+use rules::Flags;
 use rules::State;
 use rules::WriteAnswer;
 use tells::Told;
@@ -153,41 +154,33 @@ fn do_walk(s: State, a: u32) -> Deed
     }
 }
 
+fn do_end(s: State) -> Deed
+    ensures { λ r. ⌜ did r ≡ done (endOf s) ⌝ }
+{
+    Deed {
+        told: tells::ok(0, 0),
+        state: twin::end_signal(s),
+    }
+}
+
 // The operation of that number, as specs/Door.antt names them; any other number is a line of no form.
 fn perform(s: State, op: u32, a: u32, b: u32, c: u32) -> Deed
     ensures { λ r. ⌜ did r ≡ doorOf s op a b c ⌝ }
 {
-    if op == 0 {
-        return do_reset(s);
+    match op {
+        0 => do_reset(s),
+        1 => do_write(s, a, b, c),
+        2 => do_read(s, a, b),
+        3 => do_host(s, a, b, c),
+        4 => do_port_write(s, a, b, c),
+        5 => do_port_read(s, a, b),
+        6 => do_memory(s, a, b),
+        7 => do_port(s, a),
+        8 => do_probe(s, a, b),
+        9 => do_walk(s, a),
+        10 => do_end(s),
+        _ => bad(s),
     }
-    if op == 1 {
-        return do_write(s, a, b, c);
-    }
-    if op == 2 {
-        return do_read(s, a, b);
-    }
-    if op == 3 {
-        return do_host(s, a, b, c);
-    }
-    if op == 4 {
-        return do_port_write(s, a, b, c);
-    }
-    if op == 5 {
-        return do_port_read(s, a, b);
-    }
-    if op == 6 {
-        return do_memory(s, a, b);
-    }
-    if op == 7 {
-        return do_port(s, a);
-    }
-    if op == 8 {
-        return do_probe(s, a, b);
-    }
-    if op == 9 {
-        return do_walk(s, a);
-    }
-    bad(s)
 }
 
 // What is told in one number, and the state afterwards.
@@ -240,19 +233,19 @@ pub fn write(s: State, offset: u32, lanes: u32, value: u32) -> Numbered
 
 pub struct Stored {
     pub number: u32,
-    pub closed: Closed,
+    pub flags: Flags,
 }
 
 // The same over the record's bytes, which are lent on, with its flags by value: nothing is copied.
-pub fn put(m: &mut [u8; 256], c: Closed, offset: u32, lanes: u32, value: u32) -> Stored
-    ensures { λ r. ⌜ lent (no (r .number)) (now (m .exit)) (r .closed) ≡ writeLanes guests c (now (m .entry)) offset lanes value ⌝ }
+pub fn put(m: &mut [u8; 256], c: Flags, offset: u32, lanes: u32, value: u32) -> Stored
+    ensures { λ r. ⌜ lent (no (r .number)) (now (m .exit)) (r .flags) ≡ writeLanes guests c (now (m .entry)) offset lanes value ⌝ }
 {
     let guest = map::all_guests();
     let w = writes::write(m, &guest, c, offset, lanes, value);
     let a = w.answer;
-    let after = w.closed;
+    let after = w.flags;
     Stored {
         number: number(a),
-        closed: after,
+        flags: after,
     }
 }

@@ -14,8 +14,9 @@ use Rattle.answer.proofs.Agree.{one-answer}
 use Rattle.map.specs.Map.{rows, rowAt, classOf, defaults}
 use Rattle.rules.specs.declared.State.{State}
 use Rattle.rules.specs.Access.{enabled, byteFor}
-use Rattle.rules.specs.Guest.{bitsTaken, takenBy, takes, store, clear, reset, starts, storedBit, sizeAfter, bitAfter, ofField, touches, closedAfter, stepOf, writeOf}
-use Rattle.rules.specs.Read.{pointer, readBit, readValue, readOf}
+use Rattle.rules.specs.Guest.{bitsTaken, takenBy, takes, store, clear, starts, storedBit, sizeAfter, bitAfter, ofField, touches, flagsAfter, writtenOf, stepOf, writeOf}
+use Rattle.rules.specs.Reset.{reset, endedBit, endedOf, endOf}
+use Rattle.rules.specs.Read.{pointer, shownBit, readBit, readValue, readOf}
 use Rattle.rules.specs.Fresh.{freshOf}
 use Rattle.rules.specs.Events.{happens}
 use Rattle.probe.specs.Probe.{Reply as Probed, Kind, none, io, memory32, memory64, probeOf}
@@ -103,7 +104,7 @@ rows-hold (r ∷ rs) t = (row-holds r (both-left (holds r) (all rs) t), rows-hol
 -- ---- the claim
 
 passes : T (all examples)
-unfolding all holds answered examples numberOf rows rowAt classOf defaults enabled byteFor bitsTaken takenBy takes store clear reset starts storedBit sizeAfter bitAfter ofField touches closedAfter stepOf writeOf pointer readBit readValue readOf freshOf happens probeOf trailingZeros
+unfolding all holds answered examples numberOf rows rowAt classOf defaults enabled byteFor bitsTaken takenBy takes store clear starts storedBit sizeAfter bitAfter ofField touches flagsAfter writtenOf stepOf writeOf reset endedBit endedOf endOf pointer shownBit readBit readValue readOf freshOf happens probeOf trailingZeros
 passes = tt
 
 pub examples-hold : Each Holds examples

@@ -4,7 +4,7 @@ use mathlib.Core.List.{List, [], _∷_}
 use Prim.Native.Nat.{ℕ}
 use Rattle.answer.specs.Refusals.{Reply, ok}
 use Rattle.rules.specs.declared.State.{State}
-use Rattle.rules.specs.Events.{Event, read, write, happens}
+use Rattle.rules.specs.Events.{Event, read, write, end-signal, happens}
 use Rattle.rules.specs.Fresh.{freshOf}
 use Rattle.probe.specs.Probe.{Reply as Probed, memory64, range, probeOf}
 
@@ -22,6 +22,10 @@ e gives v = record { event = e; reply = ok v }
 -- a guest write is accepted: offset, lanes, value
 abbrev pub W : ℕ → ℕ → ℕ → Step
 W o l v = write o l v gives 0
+
+-- the end signal
+abbrev pub E : Step
+E = end-signal gives 0
 
 -- offset, lanes
 abbrev pub R : ℕ → ℕ → Event
@@ -48,7 +52,7 @@ examples =
     session (W 0x7C 0x8 0x01000000 ∷ R 0x34 0xF gives 0x000000D0 ∷ []) ∷
     session (W 0xD4 0x1 0x00000001 ∷ R 0xD4 0x1 gives 0 ∷ W 0xD4 0x1 3 ∷ R 0xD4 0x1 gives 0x00000003 ∷ []) ∷
     session (W 0xE8 0x2 0 ∷ W 0xE8 0xF 0x00008001 ∷ R 0xE8 0xF gives 0x00000001 ∷ []) ∷
-    session (W 0x2C 0x3 0x00001234 ∷ W 0xA8 0x1 1 ∷ W 0x2C 0x3 0x0000FFFF ∷ R 0x2C 0x3 gives 0x00001234 ∷ []) ∷
+    session (W 0x2C 0x3 0x00001234 ∷ W 0xA8 0x1 1 ∷ E ∷ W 0x2C 0x3 0x0000FFFF ∷ R 0x2C 0x3 gives 0x00001234 ∷ []) ∷
     probe 0xF000000C 0xFFFFFFFF (range memory64 28) ∷
     []
 

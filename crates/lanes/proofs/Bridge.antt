@@ -11,7 +11,7 @@ use Rattle.map.specs.Class.{Class, readOnly, host, guest, guestF, once, sizeCod
 use Rattle.map.specs.Map.{classOf, maskAt, guestAt}
 use Rattle.map.proofs.Classes.{mask-bit, guest-mask}
 use Rattle.map.proofs.Blends.{blend-by}
-use Rattle.rules.specs.declared.Closed.{Closed}
+use Rattle.rules.specs.declared.Flags.{Flags}
 use Rattle.rules.specs.Guest.{takes}
 use Rattle.lanes.specs.Lane.{leaves, heldOf, reachOf}
 
@@ -21,7 +21,7 @@ open-bit : (t : Bool) → pick (both true (not t)) 0 1 ≡ mark t
 open-bit true = refl
 open-bit false = refl
 
-takes-bit : (c : Closed) (code w : ℕ) (k : Class) → pick (leaves c code w k) 0 (mark (stores k)) ≡ mark (takes c code w k)
+takes-bit : (c : Flags) (code w : ℕ) (k : Class) → pick (leaves c code w k) 0 (mark (stores k)) ≡ mark (takes c code w k)
 unfolding takes
 takes-bit c code w readOnly = refl
 takes-bit c code w host = refl
@@ -34,11 +34,11 @@ takes-bit c code w power = open-bit (takes c code w power)
 takes-bit c code w computed = refl
 takes-bit c code w resetStart = refl
 
-reach-mask : (c : Closed) (code w i : ℕ) → i < 256 → reachOf c code i (guestAt i) w ≡ maskAt (takes c code w) i
+reach-mask : (c : Flags) (code w i : ℕ) → i < 256 → reachOf c code i (guestAt i) w ≡ maskAt (takes c code w) i
 unfolding reachOf heldOf
 reach-mask c code w i h =
     ap (λ (g : ℕ). blendK 8 (maskAt (leaves c code w) i) g 0) (guest-mask i h) ∙ blend-by (leaves c code w) i (maskAt stores i) 0
     ∙ number-ext 8 (λ (j : ℕ). pick (leaves c code w (classOf i j)) (bit 0 j) (bit (maskAt stores i) j)) (λ (j : ℕ). mark (takes c code w (classOf i j))) (λ j l. rw (bit-zero j, mask-bit stores i j l) (takes-bit c code w (classOf i j)))
 
-pub reach-has : (c : Closed) (code w i j : ℕ) → i < 256 → j < 8 → eqb (bit (reachOf c code i (guestAt i) w) j) 1 ≡ takes c code w (classOf i j)
+pub reach-has : (c : Flags) (code w i j : ℕ) → i < 256 → j < 8 → eqb (bit (reachOf c code i (guestAt i) w) j) 1 ≡ takes c code w (classOf i j)
 reach-has c code w i j h k = rw (reach-mask c code w i h, mask-bit (takes c code w) i j k) (mark-is (takes c code w (classOf i j)))

@@ -15,7 +15,7 @@ use Rattle.map.specs.Registers.{GMADR, SVID2, SID2, MSAC, PMCS, SWSCI}
 use Rattle.map.specs.Class.{Class, readOnly, host, guest, guestF, once, sizeCode, aperture, power, computed, resetStart}
 use Rattle.map.specs.Map.{rows, rowAt, classOf}
 use Rattle.map.proofs.Classes.{past-the-map}
-use Rattle.rules.specs.declared.Closed.{Closed}
+use Rattle.rules.specs.declared.Flags.{Flags}
 use Rattle.rules.specs.Guest.{bitsTaken, takenBy, takes, sizeOf}
 use Rattle.lanes.specs.Lane.{takenMask, ifClosed, leaves, heldOf}
 
@@ -30,7 +30,7 @@ taken-bits code false false p q = rw (p, q)
 pub taken-is : (code : ℕ) → takenMask code ≡ pick (eqb code 3) 0x18 (pick (eqb code 1) 0x08 0)
 taken-is code = taken-bits code _ _ refl refl
 
-module _ (c : Closed) (code w : ℕ) where
+module _ (c : Flags) (code w : ℕ) where
   aperture-held : (a b : Bool) → eqb code 3 ≡ a → eqb code 1 ≡ b → heldOf c code w (GMADR + 3) ≡ pick a 0x18 (pick b 0x08 0)
   unfolding numberOf rows rowAt classOf bitsTaken takenBy takes heldOf
   aperture-held true b p q = rw p
@@ -110,7 +110,7 @@ plain power = false
 plain computed = true
 plain resetStart = true
 
-plain-leaves : (c : Closed) (code w : ℕ) (k : Class) → T (plain k) → leaves c code w k ≡ false
+plain-leaves : (c : Flags) (code w : ℕ) (k : Class) → T (plain k) → leaves c code w k ≡ false
 unfolding takes
 plain-leaves c code w readOnly t = refl
 plain-leaves c code w host t = refl
@@ -133,17 +133,17 @@ all-plain : T (allBelow 256 plain-at)
 unfolding plain-at special rows rowAt classOf
 all-plain = tt
 
-inner-other : (c : Closed) (code w i : ℕ) → i < 256 → special i ≡ false → heldOf c code w i ≡ 0
+inner-other : (c : Flags) (code w i : ℕ) → i < 256 → special i ≡ false → heldOf c code w i ≡ 0
 unfolding heldOf plain-at
 inner-other c code w i h e =
     let t : T (allBelow 8 (λ (j : ℕ). plain (classOf i j))) = other (special i) _ e (below 256 plain-at all-plain i h) in
     number-ext 8 (λ (j : ℕ). mark (leaves c code w (classOf i j))) (λ (j : ℕ). 0) (λ j l. ap mark (plain-leaves c code w (classOf i j) (below 8 (λ (j : ℕ). plain (classOf i j)) t j l))) ∙ number-none 8
 
-past-other : (c : Closed) (code w i : ℕ) → 256 ≤ i → heldOf c code w i ≡ 0
+past-other : (c : Flags) (code w i : ℕ) → 256 ≤ i → heldOf c code w i ≡ 0
 unfolding heldOf
 past-other c code w i h = number-ext 8 (λ (j : ℕ). mark (leaves c code w (classOf i j))) (λ (j : ℕ). 0) (λ j l. rw (past-the-map i j h)) ∙ number-none 8
 
-pub at-other : (c : Closed) (code w i : ℕ) → (i ≡ GMADR + 3 → ⊥) → (i / 2 ≡ SVID2 / 2 → ⊥) → (i / 2 ≡ SID2 / 2 → ⊥) → (i ≡ SWSCI + 1 → ⊥) → (i ≡ MSAC → ⊥) → (i ≡ PMCS → ⊥) → heldOf c code w i ≡ 0
+pub at-other : (c : Flags) (code w i : ℕ) → (i ≡ GMADR + 3 → ⊥) → (i / 2 ≡ SVID2 / 2 → ⊥) → (i / 2 ≡ SID2 / 2 → ⊥) → (i ≡ SWSCI + 1 → ⊥) → (i ≡ MSAC → ⊥) → (i ≡ PMCS → ⊥) → heldOf c code w i ≡ 0
 unfolding special
 at-other c code w i n1 n2 n3 n4 n5 n6 =
     let e : special i ≡ false = simp (ne-eqb i (GMADR + 3) n1, ne-eqb (i / 2) (SVID2 / 2) n2, ne-eqb (i / 2) (SID2 / 2) n3, ne-eqb i (SWSCI + 1) n4, ne-eqb i MSAC n5, ne-eqb i PMCS n6) in

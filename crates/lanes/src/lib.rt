@@ -1,7 +1,7 @@
 // Which guest bits of a byte a write reaches: the special rules hold bits back, the guest mask lets the others through.
 ghost use mathlib.Core.Path.{_≡_};
 ghost use Rattle.lanes.specs.Lane.{takenMask, ifClosed, heldOf, reachOf};
-use rules::Closed;
+use rules::Flags;
 
 // Bits 31:24 of GMADR, which has the bits that a size code takes.
 pub const APERTURE: usize = map::GMADR + 3;
@@ -28,7 +28,7 @@ fn if_closed(flag: u8, mask: u8) -> u8
 }
 
 // The guest bits of byte `i` that a write of `w` leaves as they are, by the rules of write-once fields, size code and power state.
-fn held(c: Closed, code: u8, i: usize, w: u8) -> u8
+fn held(c: Flags, code: u8, i: usize, w: u8) -> u8
     ensures { λ r. ⌜ r ≡ heldOf c code w i ⌝ }
 {
     if i == APERTURE {
@@ -62,7 +62,7 @@ fn held(c: Closed, code: u8, i: usize, w: u8) -> u8
 }
 
 // The guest bits of byte `i` that take what is written: `full` is its guest mask.
-pub fn reach(c: Closed, code: u8, i: usize, full: u8, w: u8) -> u8
+pub fn reach(c: Flags, code: u8, i: usize, full: u8, w: u8) -> u8
     ensures { λ r. ⌜ r ≡ reachOf c code i full w ⌝ }
 {
     bits::blend(held(c, code, i, w), full, 0)

@@ -24,9 +24,9 @@ pub extern "C" fn twin_platform_reset(s: &mut State)
 pub extern "C" fn twin_write(s: &mut State, offset: u32, lanes: u32, value: u32) -> u32
     ensures { λ r. ⌜ leaves (no r) (now (s .exit)) ≡ writeOf (now (s .entry)) offset lanes value ⌝ }
 {
-    let c = s.closed;
+    let c = s.flags;
     let w = deeds::put(&mut s.bytes, c, offset, lanes, value);
-    s.closed = w.closed;
+    s.flags = w.flags;
     w.number
 }
 

@@ -12,7 +12,7 @@ use Rattle.bits.specs.Places.{from}
 use Rattle.bits.proofs.Places.{as-from}
 use Rattle.bits.proofs.Tests.{tests}
 use Rattle.lines.specs.declared.Command.{Command}
-use Rattle.lines.specs.declared.Command.the-variants.{Write, Read, Host, Reset, Bad}
+use Rattle.lines.specs.declared.Command.the-variants.{Write, Read, Host, Reset, End, Bad}
 use Rattle.lines.specs.Ascii.{ascii}
 use Rattle.lines.specs.Hex.{upOf, hexOf}
 use Rattle.lines.specs.Line.{at, writeCommandOf, readCommandOf, hostCommandOf, commandOf}
@@ -23,9 +23,9 @@ use Rattle.lines.proofs.Exactly as E
 -- ---- the forms
 
 -- every digit, the paper's first line and its first read, and a line of each other form
-pub as-printed : (hexOf 16 0x0123456789ABCDEF ≡ ascii "0123456789ABCDEF") × (formOf (Write 0x2C 3 0x1234) ≡ ascii "W 2C 3 00001234") × (formOf (Read 0x2C 0xF) ≡ ascii "R 2C F") × (formOf (Host 0x08 0xFF 0x09) ≡ ascii "H 08 FF 09") × (formOf Reset ≡ ascii "P")
+pub as-printed : (hexOf 16 0x0123456789ABCDEF ≡ ascii "0123456789ABCDEF") × (formOf (Write 0x2C 3 0x1234) ≡ ascii "W 2C 3 00001234") × (formOf (Read 0x2C 0xF) ≡ ascii "R 2C F") × (formOf (Host 0x08 0xFF 0x09) ≡ ascii "H 08 FF 09") × (formOf Reset ≡ ascii "P") × (formOf End ≡ ascii "E")
 unfolding formOf hexOf upOf
-as-printed = (refl, refl, refl, refl, refl)
+as-printed = (refl, refl, refl, refl, refl, refl)
 
 -- ---- a command's form is read as the command
 
@@ -46,6 +46,7 @@ formed (Host o m v) r =
     let hv : v ≤ 255 = omega arith in
     rw (reads-pair (printed-reads 2 o (r .0)), reads-pair (printed-reads 2 m (r .1)), reads-pair (printed-reads 2 v (r .2))) (search tests)
 formed Reset r = refl
+formed End r = refl
 formed Bad r = absurd r
 
 -- ---- a line that is read as a command is its form
@@ -94,7 +95,7 @@ module _ (l : List ℕ) where
       let v = reads-printed (pair-reads (at l 8) (at l 9) hv) in
       ((o .0, m .0, v .0), of-length 10 l n ∙ rw (o .1, m .1, v .1, h, s1, s4, s7))))))
       none) none) none) none)
-      (if-is (length l) _ _ _ (λ n. if-is (at l 0) _ _ _ (λ p _. (tt, of-length 1 l n ∙ rw p)) none) none)))
+      (if-is (length l) _ _ _ (λ n. if-is (at l 0) _ _ _ (λ p _. (tt, of-length 1 l n ∙ rw p)) (if-is (at l 0) _ _ _ (λ e _. (tt, of-length 1 l n ∙ rw e)) none)) none)))
 
 pub only-forms : (l : List ℕ) → (commandOf l ≡ Bad → ⊥) → InRange (commandOf l) × (l ≡ formOf (commandOf l))
 only-forms l = its l
@@ -110,6 +111,7 @@ bad-or (Write o l v) = inr (λ e. E.apart cc)
 bad-or (Read o l) = inr (λ e. E.apart cc)
 bad-or (Host o m v) = inr (λ e. E.apart cc)
 bad-or Reset = inr (λ e. E.apart cc)
+bad-or End = inr (λ e. E.apart cc)
 bad-or Bad = inl refl
 
 -- and it is none exactly when it is of no command's form

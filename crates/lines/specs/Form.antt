@@ -1,8 +1,8 @@
--- The forms of a session line ('The session player'): `W oo l vvvvvvvv`, `R oo l`, `H oo mm vv`, `P`.
+-- The forms of a session line ('The session player'): `W oo l vvvvvvvv`, `R oo l`, `H oo mm vv`, `P`, and the end signal's `E`.
 use mathlib.Core.List.{List, [], _++_}
 use Prim.Native.Nat.{ℕ, _^_, _<_}
 use Rattle.lines.specs.declared.Command.{Command}
-use Rattle.lines.specs.declared.Command.the-variants.{Write, Read, Host, Reset, Bad}
+use Rattle.lines.specs.declared.Command.the-variants.{Write, Read, Host, Reset, End, Bad}
 use Rattle.lines.specs.Ascii.{ascii}
 use Rattle.lines.specs.Hex.{hexOf}
 
@@ -17,6 +17,7 @@ formOf (Write o l v) = ascii "W" ␣ hexOf 2 o ␣ hexOf 1 l ␣ hexOf 8 v
 formOf (Read o l) = ascii "R" ␣ hexOf 2 o ␣ hexOf 1 l
 formOf (Host o m v) = ascii "H" ␣ hexOf 2 o ␣ hexOf 2 m ␣ hexOf 2 v
 formOf Reset = ascii "P"
+formOf End = ascii "E"
 formOf Bad = []
 
 -- the numbers that its digits can say; what is no command has no form
@@ -25,4 +26,5 @@ InRange (Write o l v) = (o < 256) × (l < 16) × (v < 2 ^ 32)
 InRange (Read o l) = (o < 256) × (l < 16)
 InRange (Host o m v) = (o < 256) × (m < 256) × (v < 256)
 InRange Reset = Unit
+InRange End = Unit
 InRange Bad = ⊥

@@ -6,7 +6,7 @@ use lib.ListN.{getD, length}
 use Rattle.bits.specs.Choice.{pick}
 use Rattle.lines.specs.Ascii.{letter}
 use Rattle.lines.specs.declared.Command.{Command}
-use Rattle.lines.specs.declared.Command.the-variants.{Write, Read, Host, Reset, Bad}
+use Rattle.lines.specs.declared.Command.the-variants.{Write, Read, Host, Reset, End, Bad}
 
 unfoldable pub digitOf : ℕ → ℕ
 digitOf b = pick (ltb b 48) 16 (pick (ltb b 58) (b - 48) (pick (ltb b 65) 16 (pick (ltb b 71) (b - 55) 16)))
@@ -28,7 +28,7 @@ hostCommandOf o k v = pick (ltb 255 o) Bad (pick (ltb 255 k) Bad (pick (ltb 255 
 abbrev pub at : List ℕ → ℕ → ℕ
 at l i = getD l i 0
 
--- `W oo l vvvvvvvv`, `R oo l`, `H oo mm vv`, `P`
+-- `W oo l vvvvvvvv`, `R oo l`, `H oo mm vv`, `P`, `E`
 unfoldable pub commandOf : List ℕ → Command
 commandOf l =
     pick (eqb (length l) 15)
@@ -43,4 +43,4 @@ commandOf l =
     (pick (eqb (at l 0) (letter "H")) (pick (eqb (at l 1) (letter " ")) (pick (eqb (at l 4) (letter " ")) (pick (eqb (at l 7) (letter " "))
     (hostCommandOf (pairOf (at l 2) (at l 3)) (pairOf (at l 5) (at l 6)) (pairOf (at l 8) (at l 9)))
     Bad) Bad) Bad) Bad)
-    (pick (eqb (length l) 1) (pick (eqb (at l 0) (letter "P")) Reset Bad) Bad)))
+    (pick (eqb (length l) 1) (pick (eqb (at l 0) (letter "P")) Reset (pick (eqb (at l 0) (letter "E")) End Bad)) Bad)))

@@ -1,13 +1,14 @@
-// A session line: the command that it is, where it is of one of the four forms.
+// A session line: the command that it is, where it is of one of the five forms.
 ghost use mathlib.Core.Path.{_≡_};
 ghost use Rattle.lines.specs.Line.{digitOf, pairOf, writeCommandOf, readCommandOf, hostCommandOf, commandOf};
 
-// `W oo l vvvvvvvv`, `R oo l`, `H oo mm vv`, `P`, or none of these.
+// `W oo l vvvvvvvv`, `R oo l`, `H oo mm vv`, `P`, `E`, or none of these.
 pub enum Command {
     Write(u32, u32, u32),
     Read(u32, u32),
     Host(u32, u8, u8),
     Reset,
+    End,
     Bad,
 }
 
@@ -159,6 +160,9 @@ pub fn parse(l: &[u8]) -> Command
     if l.len() == 1 {
         if l[0] == b'P' {
             return Command::Reset;
+        }
+        if l[0] == b'E' {
+            return Command::End;
         }
         return Command::Bad;
     }

@@ -11,11 +11,12 @@ use Rattle.rules.specs.Events.{happens}
 use Rattle.rules.specs.Events as E
 use Rattle.rules.proofs.Good.{Good, fresh-good, event-good}
 use Rattle.lines.specs.declared.Command.{Command}
-use Rattle.lines.specs.declared.Command.the-variants.{Write, Read, Host, Reset, Bad}
+use Rattle.lines.specs.declared.Command.the-variants.{Write, Read, Host, Reset, End, Bad}
 use Rattle.lines.specs.Line.{commandOf}
 use Rattle.lines.proofs.Long.{begin-alike}
 use Rattle.writes.proofs.Bridge.{write-is}
 use Rattle.reads.proofs.Bridge.{read-is}
+use Rattle.resets.proofs.Bridge.{end-is}
 use Rattle.updates.proofs.Bridge.{update-is}
 use Rattle.play.specs.Session.{answers, allLines, joins, blocksText}
 use Rattle.play.specs.Box.{Box, box, boxNext, boxSay, lineBox, lineText}
@@ -25,7 +26,7 @@ use Rattle.play.proofs.Blocks.{in-blocks}
 -- ---- a state's bytes and flags, under the map's tables
 
 abbrev pub boxed : State → Box
-boxed s = box guests hosts (s .bytes) (s .closed)
+boxed s = box guests hosts (s .bytes) (s .flags)
 
 say-is : (s : State) → Good s → (k : Command) → boxSay (boxed s) k ≡ sayOf s k
 unfolding boxSay sayOf happens
@@ -33,6 +34,7 @@ say-is s g (Write o l v) = ap (λ (x : Outcome). replyText (x .reply)) (write-is
 say-is s g (Read o l) = ap valueTextOf (read-is s (g .fits) o l)
 say-is s g (Host o m v) = ap (λ (x : Outcome). replyText (x .reply)) (update-is s (g .long) (g .fits) o m v)
 say-is s g Reset = refl
+say-is s g End = refl
 say-is s g Bad = refl
 
 next-is : (s : State) → Good s → (k : Command) → boxNext (boxed s) k ≡ boxed (nextOf s k)
@@ -41,6 +43,7 @@ next-is s g (Write o l v) = ap (λ (x : Outcome). boxed (x .state)) (write-is s 
 next-is s g (Read o l) = refl
 next-is s g (Host o m v) = ap (λ (x : Outcome). boxed (x .state)) (update-is s (g .long) (g .fits) o m v)
 next-is s g Reset = refl
+next-is s g End = ap boxed (end-is s (g .long))
 next-is s g Bad = refl
 
 next-good : (s : State) → Good s → (k : Command) → Good (nextOf s k)
@@ -49,6 +52,7 @@ next-good s g (Write o l v) = event-good (E.write o l v) s g
 next-good s g (Read o l) = event-good (E.read o l) s g
 next-good s g (Host o m v) = event-good (E.host-update o m v) s g
 next-good s g Reset = event-good E.platform-reset s g
+next-good s g End = event-good E.end-signal s g
 next-good s g Bad = g
 
 -- ---- lines

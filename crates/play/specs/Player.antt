@@ -4,12 +4,11 @@ use Prim.Native.Nat.{ℕ}
 use Rattle.bits.specs.Choice.{if_then_else_, _is_}
 use Rattle.answer.specs.Refusals.{Reply, LINE}
 use Rattle.rules.specs.declared.State.{State}
-use Rattle.rules.specs.declared.Closed.{Closed}
 use Rattle.rules.specs.Fresh.{freshOf}
 use Rattle.rules.specs.Events.{happens}
 use Rattle.rules.specs.Events as E
 use Rattle.lines.specs.declared.Command.{Command}
-use Rattle.lines.specs.declared.Command.the-variants.{Write, Read, Host, Reset, Bad}
+use Rattle.lines.specs.declared.Command.the-variants.{Write, Read, Host, Reset, End, Bad}
 use Rattle.lines.specs.Line.{commandOf}
 use Rattle.texts.specs.Text.{okText, noText, valueText}
 use Rattle.play.specs.Session.{allLines, answers}
@@ -32,6 +31,7 @@ nextOf s (Write o l v) = happens (E.write o l v) s .state
 nextOf s (Read o l) = happens (E.read o l) s .state
 nextOf s (Host o m v) = happens (E.host-update o m v) s .state
 nextOf s Reset = happens E.platform-reset s .state
+nextOf s End = happens E.end-signal s .state
 nextOf s Bad = s
 
 -- what it says; a line that is none is refused, 9
@@ -40,6 +40,7 @@ sayOf s (Write o l v) = replyText (happens (E.write o l v) s .reply)
 sayOf s (Read o l) = valueTextOf (happens (E.read o l) s .reply)
 sayOf s (Host o m v) = replyText (happens (E.host-update o m v) s .reply)
 sayOf s Reset = replyText (happens E.platform-reset s .reply)
+sayOf s End = replyText (happens E.end-signal s .reply)
 sayOf s Bad = noText LINE
 
 abbrev pub lineNext : State → List ℕ → State
@@ -52,7 +53,3 @@ lineSay s l = sayOf s (commandOf l)
 
 abbrev pub playerOf : List ℕ → List ℕ
 playerOf xs = answers lineNext lineSay freshOf (allLines xs)
-
--- the write-once fields, all open
-abbrev pub open-fields : Closed
-open-fields = record { svid2 = 0; sid2 = 0; swsci15 = 0 }

@@ -9,7 +9,7 @@ ghost use Rattle.play.specs.Session.{runOf, played, playText};
 ghost use Rattle.play.specs.Box.{box, boxNext, boxSay, lineBox, lineText};
 ghost use Rattle.play.specs.Player.{replyText, valueTextOf};
 use lines::Command;
-use rules::Closed;
+use rules::Flags;
 use rules::HostAnswer;
 use rules::ReadAnswer;
 use rules::WriteAnswer;
@@ -51,7 +51,7 @@ pub fn host_said(a: HostAnswer) -> Said
 
 pub struct Performed {
     pub said: Said,
-    pub closed: Closed,
+    pub flags: Flags,
 }
 
 // What a command says and does.
@@ -59,52 +59,54 @@ pub fn perform(
     guest: &[u8; 256],
     host: &[u8; 256],
     m: &mut [u8; 256],
-    c: Closed,
+    c: Flags,
     k: Command,
 ) -> Performed
     ensures { λ r. ⌜ textOf (r .said) ≡ boxSay (box (now (guest .entry)) (now (host .entry)) (now (m .entry)) c) k ⌝ }
-    ensures { λ r. ⌜ box (now (guest .entry)) (now (host .entry)) (now (m .exit)) (r .closed) ≡ boxNext (box (now (guest .entry)) (now (host .entry)) (now (m .entry)) c) k ⌝ }
+    ensures { λ r. ⌜ box (now (guest .entry)) (now (host .entry)) (now (m .exit)) (r .flags) ≡ boxNext (box (now (guest .entry)) (now (host .entry)) (now (m .entry)) c) k ⌝ }
 {
     match k {
         Command::Write(o, l, v) => {
             let w = writes::write(m, guest, c, o, l, v);
             let a = w.answer;
-            let after = w.closed;
+            let after = w.flags;
             Performed {
                 said: write_said(a),
-                closed: after,
+                flags: after,
             }
         }
         Command::Read(o, l) => Performed {
-            said: read_said(reads::read(m, o, l)),
-            closed: c,
+            said: read_said(reads::read(m, c.busy, o, l)),
+            flags: c,
         },
         Command::Host(o, k, v) => Performed {
             said: host_said(updates::host_update(m, host, o, k, v)),
-            closed: c,
+            flags: c,
         },
         Command::Reset => {
             *m = map::all_defaults();
-            let after = Closed {
-                svid2: 0,
-                sid2: 0,
-                swsci15: 0,
-            };
             Performed {
                 said: Said::Done,
-                closed: after,
+                flags: resets::fresh_flags(),
+            }
+        }
+        Command::End => {
+            let after = resets::end(m, c);
+            Performed {
+                said: Said::Done,
+                flags: after,
             }
         }
         Command::Bad => Performed {
             said: Said::No(answer::LINE),
-            closed: c,
+            flags: c,
         },
     }
 }
 
 pub struct Lined {
     pub filled: usize,
-    pub closed: Closed,
+    pub flags: Flags,
 }
 
 // One line, without its LF: its answer goes to `out` from place `o` on.
@@ -112,13 +114,13 @@ pub fn line(
     guest: &[u8; 256],
     host: &[u8; 256],
     m: &mut [u8; 256],
-    c: Closed,
+    c: Flags,
     l: &[u8],
     out: &mut [u8],
     o: usize,
 ) -> Lined
     requires { ⌜ o + 12 ≤ length (now out) ⌝ }
-    ensures { λ r. ⌜ box (now (guest .entry)) (now (host .entry)) (now (m .exit)) (r .closed) ≡ lineBox (box (now (guest .entry)) (now (host .entry)) (now (m .entry)) c) (now (l .entry)) ⌝ }
+    ensures { λ r. ⌜ box (now (guest .entry)) (now (host .entry)) (now (m .exit)) (r .flags) ≡ lineBox (box (now (guest .entry)) (now (host .entry)) (now (m .entry)) c) (now (l .entry)) ⌝ }
     ensures { λ r. ⌜ take (r .filled) (now (out .exit)) ≡ take o (now (out .entry)) ++ lineText (box (now (guest .entry)) (now (host .entry)) (now (m .entry)) c) (now (l .entry)) ⌝ }
     ensures { λ _. ⌜ length (now (out .exit)) ≡ length (now (out .entry)) ⌝ }
     ensures { λ r. ⌜ r .filled ≤ o + 12 ⌝ }
@@ -127,8 +129,8 @@ pub fn line(
     let p = perform(guest, host, m, c, k);
     let said = p.said;
     let filled = texts::put(out, o, said);
-    let closed = p.closed;
-    Lined { filled, closed }
+    let flags = p.flags;
+    Lined { filled, flags }
 }
 
 // ---- a text of lines
@@ -187,7 +189,7 @@ pub fn line_end(s: &[u8], a: usize) -> usize
 pub struct Rest {
     pub at: usize,
     pub filled: usize,
-    pub closed: Closed,
+    pub flags: Flags,
 }
 
 // The complete lines of a text: their answers go to the start of `out`, and the unfinished line starts at `at`.
@@ -195,12 +197,12 @@ pub fn play(
     guest: &[u8; 256],
     host: &[u8; 256],
     m: &mut [u8; 256],
-    c: Closed,
+    c: Flags,
     s: &[u8],
     out: &mut [u8],
 ) -> Rest
     requires { ⌜ 12 * length (now s) ≤ length (now out) ⌝ }
-    ensures { λ r. ⌜ playText lineBox lineText (box (now (guest .entry)) (now (host .entry)) (now (m .entry)) c) [] (now (s .entry)) ≡ played (box (now (guest .entry)) (now (host .entry)) (now (m .exit)) (r .closed)) (take (r .filled) (now (out .exit))) (drop (r .at) (now (s .entry))) ⌝ }
+    ensures { λ r. ⌜ playText lineBox lineText (box (now (guest .entry)) (now (host .entry)) (now (m .entry)) c) [] (now (s .entry)) ≡ played (box (now (guest .entry)) (now (host .entry)) (now (m .exit)) (r .flags)) (take (r .filled) (now (out .exit))) (drop (r .at) (now (s .entry))) ⌝ }
     ensures { λ r. ⌜ (r .at ≤ length (now (s .entry))) × (r .filled ≤ length (now (out .exit))) ⌝ }
     ensures { λ _. ⌜ length (now (out .exit)) ≡ length (now (out .entry)) ⌝ }
 {
@@ -213,19 +215,19 @@ pub fn play(
             return Rest {
                 at: a,
                 filled: o,
-                closed: g,
+                flags: g,
             };
         }
         let l = &s[a..e];
         let r = line(guest, host, m, g, l, out, o);
         o = r.filled;
-        g = r.closed;
+        g = r.flags;
         a = e + 1;
     }
     Rest {
         at: a,
         filled: o,
-        closed: g,
+        flags: g,
     }
 }
 

@@ -1,13 +1,13 @@
 // The session player: standard input in blocks, the answers of each block in one write.
 use libc::STDOUT_FILENO;
-use rules::Closed;
+use rules::Flags;
 ghost use mathlib.Core.Path.{_≡_};
 ghost use Prim.Native.Nat.{_≤_};
 ghost use lib.ListN.{length};
 
 struct After {
     kept: usize,
-    closed: Closed,
+    flags: Flags,
     on: bool,
 }
 
@@ -16,7 +16,7 @@ fn last(
     guest: &[u8; 256],
     host: &[u8; 256],
     m: &mut [u8; 256],
-    c: Closed,
+    c: Flags,
     buf: &[u8],
     k: usize,
     out: &mut [u8],
@@ -36,7 +36,7 @@ fn turn(
     guest: &[u8; 256],
     host: &[u8; 256],
     m: &mut [u8; 256],
-    c: Closed,
+    c: Flags,
     buf: &mut [u8],
     k: usize,
     out: &mut [u8],
@@ -49,7 +49,7 @@ fn turn(
         last(guest, host, m, c, buf, k, out);
         return After {
             kept: 0,
-            closed: c,
+            flags: c,
             on: false,
         };
     }
@@ -58,10 +58,10 @@ fn turn(
     let filled = r.filled;
     let is_written = io::write_all(STDOUT_FILENO, &out[..filled]);
     let kept = play::keep(buf, r.at, end);
-    let g = r.closed;
+    let g = r.flags;
     After {
         kept,
-        closed: g,
+        flags: g,
         on: is_written,
     }
 }
@@ -86,11 +86,7 @@ fn main() {
     let mut m = map::all_defaults();
     let mut buf = in_buffer();
     let mut out = out_buffer();
-    let mut c = Closed {
-        svid2: 0,
-        sid2: 0,
-        swsci15: 0,
-    };
+    let mut c = resets::fresh_flags();
     let mut k: usize = 0;
     let mut turns = u64::MAX;
     while turns > 0 {
@@ -99,7 +95,7 @@ fn main() {
             return;
         }
         k = t.kept;
-        c = t.closed;
+        c = t.flags;
         turns -= 1;
     }
 }

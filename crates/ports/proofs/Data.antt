@@ -12,11 +12,11 @@ use Rattle.bits.specs.Choice.{pick, both, either, mark, allBelow}
 use Rattle.bits.proofs.Laws.{number-ext, number-part, number<, bit-zero, bit<2, pick-bit, blend-number}
 use Rattle.bits.proofs.Below.{below, same, same-eq, either-left, mark<2}
 use Rattle.rules.specs.declared.State.{State}
-use Rattle.rules.specs.Access.{byte, done}
+use Rattle.rules.specs.Access.{byte, busy, done}
 use Rattle.rules.specs.Guest.{stepOf, writeOf}
 use Rattle.rules.specs.Read.{readBit}
 use Rattle.rules.specs.Ports.{DATA, badWidth, atLatch, atData, notOurs, latchBit, latchOf, dwordOf, portLanes, placed, portValue}
-use Rattle.reads.specs.Shown.{shownDword}
+use Rattle.reads.specs.Shown.{readDword}
 use Rattle.reads.proofs.Bridge.{dword-bit}
 use Rattle.ports.specs.Part.{Width, partOf}
 use Rattle.ports.proofs.Widths.{some, good-width}
@@ -76,17 +76,17 @@ pow-256 (suc a) =
     rw (pow-suc 256 a, pow-256 a, e, pow-add 2 (8 * a) 8)
 
 -- w bytes from byte a of a dword are those that a guest reads
-pub part-is : (s : State) → ((i : ℕ) → byte s i < 2 ^ 8) → (o a w : ℕ) → o + 3 < 256 → a + w ≤ 4 → partOf (shownDword (s .bytes) o) a w ≡ portValue s (o + a) w
+pub part-is : (s : State) → ((i : ℕ) → byte s i < 2 ^ 8) → (o a w : ℕ) → o + 3 < 256 → a + w ≤ 4 → partOf (readDword (busy s) (s .bytes) o) a w ≡ portValue s (o + a) w
 unfolding portValue
 part-is s b o a w h k =
-    rw (pow-256 a, pow-256 w) (sym (number-part (8 * w) (8 * a) (shownDword (s .bytes) o)))
-    ∙ number-ext (8 * w) (λ (n : ℕ). bit (shownDword (s .bytes) o) (8 * a + n)) (λ (n : ℕ). readBit s (o + a + n / 8) (n % 8))
+    rw (pow-256 a, pow-256 w) (sym (number-part (8 * w) (8 * a) (readDword (busy s) (s .bytes) o)))
+    ∙ number-ext (8 * w) (λ (n : ℕ). bit (readDword (busy s) (s .bytes) o) (8 * a + n)) (λ (n : ℕ). readBit s (o + a + n / 8) (n % 8))
     (λ n l.
     let e : o + (8 * a + n) / 8 ≡ o + a + n / 8 = omega arith in
     let r : (8 * a + n) % 8 ≡ n % 8 = omega arith in
     dword-bit s b o (8 * a + n) h (omega arith) ∙ rw (e, r))
 
-pub port-part : (s : State) → ((i : ℕ) → byte s i < 2 ^ 8) → (latch p w : ℕ) → Within p w → partOf (shownDword (s .bytes) (latch / 4 % 64 % 64 * 4)) (p % 4) w ≡ portValue s (dwordOf latch + (p - DATA)) w
+pub port-part : (s : State) → ((i : ℕ) → byte s i < 2 ^ 8) → (latch p w : ℕ) → Within p w → partOf (readDword (busy s) (s .bytes) (latch / 4 % 64 % 64 * 4)) (p % 4) w ≡ portValue s (dwordOf latch + (p - DATA)) w
 port-part s b latch p w d =
     let e : latch / 4 % 64 % 64 * 4 ≡ latch / 4 % 64 * 4 = omega arith in
     rw (e, d .lane) (part-is s b (latch / 4 % 64 * 4) (p % 4) w (omega arith) (d .room))

@@ -184,7 +184,7 @@ pub fn port_read(s: State, port: u16, width: u32) -> PortReadAnswer
         return PortReadAnswer::OtherFunction;
     }
     let t = s;
-    let whole = reads::dword(&t.bytes, (latch / 4 % 64) as u8);
+    let whole = reads::dword(&t.bytes, t.flags.busy, (latch / 4 % 64) as u8);
     PortReadAnswer::Value(part(whole, (port % 4) as u32, width))
 }
 

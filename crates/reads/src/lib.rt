@@ -1,11 +1,14 @@
-// A guest read, over 256 bytes that are lent.
+// A guest read, over 256 bytes that are lent, with the flag that a function reset is under way.
 ghost use mathlib.Core.Path.{_≡_};
 ghost use Prim.Native.Nat.{_+_, _*_, _%_, _<_};
+ghost use Rattle.rules.specs.Access.{up};
 ghost use Rattle.rules.specs.Answers.{readSays};
-ghost use Rattle.reads.specs.Shown.{shownByte, shownDword, readLanes, imageBytes};
+ghost use Rattle.reads.specs.Shown.{shownByte, shownDword, shownBytes, readDword, readLanes, imageBytes};
 use rules::ReadAnswer;
 
-// A byte as a guest reads it: CAPPOINT is computed from CAPL.
+// ---- as the bytes are shown while no function reset is under way
+
+// CAPPOINT is computed from CAPL.
 fn shown(m: &[u8; 256], i: usize) -> u8
     requires { ⌜ i < 256 ⌝ }
     ensures { λ r. ⌜ r ≡ shownByte (now (m .entry)) i ⌝ }
@@ -20,7 +23,7 @@ fn shown(m: &[u8; 256], i: usize) -> u8
     m[i]
 }
 
-fn dword_at(m: &[u8; 256], o: usize) -> u32
+fn shown_dword(m: &[u8; 256], o: usize) -> u32
     requires { ⌜ o + 3 < 256 ⌝ }
     ensures { λ r. ⌜ r ≡ shownDword (now (m .entry)) o ⌝ }
 {
@@ -32,17 +35,37 @@ fn dword_at(m: &[u8; 256], o: usize) -> u32
     )
 }
 
+fn shown_image(m: &[u8; 256]) -> [u8; 256]
+    ensures { λ r. ⌜ r ≡ shownBytes (now (m .entry)) ⌝ }
+{
+    let mut t = *m;
+    t[map::CAPPOINT] = shown(m, map::CAPPOINT);
+    t
+}
+
+// ---- as a guest reads: ones while busy
+
+fn dword_at(m: &[u8; 256], busy: u8, o: usize) -> u32
+    requires { ⌜ o + 3 < 256 ⌝ }
+    ensures { λ r. ⌜ r ≡ readDword (up busy) (now (m .entry)) o ⌝ }
+{
+    if busy != 0 {
+        return 0xFFFFFFFF;
+    }
+    shown_dword(m, o)
+}
+
 // The dword of number `d`, counted modulo 64, as a guest reads it.
-pub fn dword(m: &[u8; 256], d: u8) -> u32
-    ensures { λ r. ⌜ r ≡ shownDword (now (m .entry)) (d % 64 * 4) ⌝ }
+pub fn dword(m: &[u8; 256], busy: u8, d: u8) -> u32
+    ensures { λ r. ⌜ r ≡ readDword (up busy) (now (m .entry)) (d % 64 * 4) ⌝ }
 {
     let o = (d % 64 * 4) as usize;
-    dword_at(m, o)
+    dword_at(m, busy, o)
 }
 
 // The enabled bytes of the dword at `offset`, 00 in the other lanes.
-pub fn read(m: &[u8; 256], offset: u32, lanes: u32) -> ReadAnswer
-    ensures { λ r. ⌜ readSays r ≡ readLanes (now (m .entry)) offset lanes ⌝ }
+pub fn read(m: &[u8; 256], busy: u8, offset: u32, lanes: u32) -> ReadAnswer
+    ensures { λ r. ⌜ readSays r ≡ readLanes (up busy) (now (m .entry)) offset lanes ⌝ }
 {
     if 255 < offset {
         return ReadAnswer::Offset;
@@ -54,14 +77,15 @@ pub fn read(m: &[u8; 256], offset: u32, lanes: u32) -> ReadAnswer
         return ReadAnswer::Lanes;
     }
     let o = offset as usize;
-    ReadAnswer::Value(plain::driven(lanes, dword_at(m, o)))
+    ReadAnswer::Value(plain::driven(lanes, dword_at(m, busy, o)))
 }
 
 // The 256 bytes as a guest reads them.
-pub fn image(m: &[u8; 256]) -> [u8; 256]
-    ensures { λ r. ⌜ r ≡ imageBytes (now (m .entry)) ⌝ }
+pub fn image(m: &[u8; 256], busy: u8) -> [u8; 256]
+    ensures { λ r. ⌜ r ≡ imageBytes (up busy) (now (m .entry)) ⌝ }
 {
-    let mut t = *m;
-    t[map::CAPPOINT] = shown(m, map::CAPPOINT);
-    t
+    if busy != 0 {
+        return [0xFF; 256];
+    }
+    shown_image(m)
 }

@@ -13,9 +13,10 @@ use Rattle.map.specs.Registers.{GMADR, MSAC}
 use Rattle.map.specs.Class.{hasF, apertureBit, resetStart, sameClass}
 use Rattle.map.specs.Map.{rows, rowAt, classOf, defaultAt}
 use Rattle.rules.specs.declared.State.{State}
-use Rattle.rules.specs.declared.Closed.{Closed}
+use Rattle.rules.specs.declared.Flags.{Flags}
 use Rattle.rules.specs.Access.{byte, enabled, byteFor, badOffset}
-use Rattle.rules.specs.Guest.{leastExponent, takenBy, takes, store, clear, reset, starts, storedBit, sizeAfter, bitAfter}
+use Rattle.rules.specs.Guest.{leastExponent, takenBy, takes, store, clear, storedBit, sizeAfter, bitAfter}
+use Rattle.rules.specs.Reset.{reset, endedBit}
 
 -- ---- an offset that is not refused
 
@@ -53,7 +54,7 @@ byteFor-at o v k =
 bit-pick : (b : Bool) (x y : ℕ) → x < 2 → y < 2 → pick b x y < 2
 bit-pick b x y p q = pick-has (λ (n : ℕ). n < 2) b x y p q
 
-store<2 : (e : Bool) (c : Closed) (code w i j x : ℕ) → x < 2 → store e c code w i j x < 2
+store<2 : (e : Bool) (c : Flags) (code w i j x : ℕ) → x < 2 → store e c code w i j x < 2
 unfolding store
 store<2 true c code w i j x h = bit-pick (takes c code w (classOf i j)) (bit w j) x (bit<2 w j) h
 store<2 false c code w i j x h = h
@@ -62,19 +63,18 @@ pub stored<2 : (s : State) (o l v i j : ℕ) → storedBit s o l v i j < 2
 unfolding storedBit
 stored<2 s o l v i j = store<2 (enabled o l i) _ _ (byteFor o v i) i j (bit (byte s i) j) (bit<2 (byte s i) j)
 
-pub clear<2 : (e : Bool) (code i j x : ℕ) → x < 2 → clear e code i j x < 2
+clear<2 : (e : Bool) (code i j x : ℕ) → x < 2 → clear e code i j x < 2
 unfolding clear
 clear<2 true code i j x h = bit-pick (takenBy code (classOf i j)) 0 x (omega arith) h
 clear<2 false code i j x h = h
 
-reset<2 : (e : Bool) (i j x : ℕ) → x < 2 → reset e i j x < 2
-unfolding reset
-reset<2 true i j x h = bit-pick (hasF (classOf i j)) (bit (defaultAt i) j) _ (bit<2 (defaultAt i) j) (bit-pick (sameClass (classOf i j) resetStart) 0 x (omega arith) h)
-reset<2 false i j x h = h
-
 pub after<2 : (s : State) (o l v i j : ℕ) → bitAfter s o l v i j < 2
 unfolding bitAfter
-after<2 s o l v i j = reset<2 (starts o l v) i j _ (clear<2 (enabled o l MSAC) (sizeAfter s o l v) i j _ (stored<2 s o l v i j))
+after<2 s o l v i j = clear<2 (enabled o l MSAC) (sizeAfter s o l v) i j _ (stored<2 s o l v i j)
+
+pub ended<2 : (s : State) (i j : ℕ) → endedBit s i j < 2
+unfolding endedBit reset
+ended<2 s i j = bit-pick (hasF (classOf i j)) (bit (defaultAt i) j) _ (bit<2 (defaultAt i) j) (bit-pick (sameClass (classOf i j) resetStart) 0 (bit (byte s i) j) (omega arith) (bit<2 (byte s i) j))
 
 -- a byte that is not enabled stays
 pub outside : (s : State) (o l v i : ℕ) → byte s i < 2 ^ 8 → enabled o l i ≡ false → byte s i ≡ byteOf (storedBit s o l v i)

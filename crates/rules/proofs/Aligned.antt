@@ -12,7 +12,7 @@ use Rattle.bits.specs.Choice.{pick, both, either, allBelow}
 use Rattle.bits.proofs.Laws.{low-zero}
 use Rattle.bits.proofs.Below.{below, both-left, both-right, is-false}
 use Rattle.map.specs.Registers.{GMADR, MSAC}
-use Rattle.map.specs.Class.{aperture, stores, isHost, resetStart, sameClass}
+use Rattle.map.specs.Class.{aperture, stores, isHost}
 use Rattle.map.specs.Map.{rows, rowAt, classOf, defaults, defaultAt}
 use Rattle.rules.specs.declared.State.{State}
 use Rattle.rules.specs.Access.{byte}
@@ -29,7 +29,7 @@ at b = GMADR + b / 8
 -- ---- bits 26:4 are read-only, 0
 
 abbrev fixed-at : ℕ → Bool
-fixed-at b = both (not (stores (classOf (at b) (b % 8)))) (both (not (isHost (classOf (at b) (b % 8)))) (both (not (sameClass (classOf (at b) (b % 8)) resetStart)) (eqb (bit (defaultAt (at b)) (b % 8)) 0)))
+fixed-at b = both (not (stores (classOf (at b) (b % 8)))) (both (not (isHost (classOf (at b) (b % 8)))) (eqb (bit (defaultAt (at b)) (b % 8)) 0))
 
 low-at : ℕ → Bool
 low-at b = either (ltb b 4) (fixed-at b)
@@ -73,9 +73,8 @@ module _ (es : List Event) where
       go true t = refl
       go false t =
           let u = both-right (not (stores (classOf (at b) (b % 8)))) _ t in
-          let w = both-right (not (isHost (classOf (at b) (b % 8)))) _ u in
-          default-holds (at b) (b % 8) (omega arith) (omega arith) (is-false _ (both-left (not (stores (classOf (at b) (b % 8)))) _ t)) (is-false _ (both-left (not (isHost (classOf (at b) (b % 8)))) _ u)) (is-false _ (both-left (not (sameClass (classOf (at b) (b % 8)) resetStart)) _ w)) es
-          ∙ eqb→eq _ _ (both-right (not (sameClass (classOf (at b) (b % 8)) resetStart)) _ w)
+          default-holds (at b) (b % 8) (omega arith) (omega arith) (is-false _ (both-left (not (stores (classOf (at b) (b % 8)))) _ t)) (is-false _ (both-left (not (isHost (classOf (at b) (b % 8)))) _ u)) es
+          ∙ eqb→eq _ _ (both-right (not (isHost (classOf (at b) (b % 8)))) _ u)
 
   -- the bits that the code takes
   is-taken : (b : ℕ) → 27 ≤ b → b < exponentOf code → takenBy code (aperture b) ≡ true

@@ -4,29 +4,33 @@ use mathlib.Core.List.{List}
 use mathlib.Core.Bool.{Bool, true, false, not}
 use Prim.Native.Nat.{ℕ, _+_, _*_, _/_, _%_, _^_, _<_}
 use native.Mathlib.Omega.{arith}
-use lib.Dec.{T, eqb, ltb}
+use lib.Dec.{T, eqb, ltb, eqb→eq}
 use borrow.Author.Tests.{eqb-false}
-use Rattle.bits.specs.Bits.{bit, numberOf}
-use Rattle.bits.specs.Choice.{pick, both, allBelow}
+use Rattle.bits.specs.Bits.{bit, numberOf, byteOf}
+use Rattle.bits.specs.Choice.{pick, both, either, allBelow}
 use Rattle.bits.proofs.Laws.{number-ext, number-none, number-split}
 use Rattle.bits.proofs.Below.{below, both-left, both-right, is-true, is-false}
 use Rattle.answer.specs.Refusals.{ok}
-use Rattle.map.specs.Registers.{CAPPOINT, CAPL, SVID2, SID2, SWSCI}
-use Rattle.map.specs.Class.{Field, svid2, sid2, swsci15, once, sameClass}
-use Rattle.map.specs.Map.{rows, rowAt, classOf}
+use Rattle.map.specs.Registers.{PCICMD2, CAPPOINT, CAPL, SVID2, SID2, AFCTL, SWSCI}
+use Rattle.map.specs.Class.{Field, svid2, sid2, swsci15, once, computed, stores, isHost, sameClass}
+use Rattle.map.specs.Map.{rows, rowAt, classOf, defaults, defaultAt}
 use Rattle.map.proofs.Classes.{same-once, not-computed}
 use Rattle.rules.specs.declared.State.{State}
-use Rattle.rules.specs.Access.{byte, badOffset, badLanes, done, refused}
-use Rattle.rules.specs.Guest.{stepOf, writeOf}
-use Rattle.rules.specs.Read.{pointer, readBit, readValue, readOf}
+use Rattle.rules.specs.Access.{byte, busy, badOffset, badLanes, done, refused}
+use Rattle.rules.specs.Guest.{writtenOf, stepOf, writeOf}
+use Rattle.rules.specs.Read.{pointer, shownBit, readBit, readValue, readOf}
 use Rattle.rules.specs.Host.{notHost, hostStepOf, hostOf}
+use Rattle.rules.specs.Claims.{unclaimed, memoryClaimOf, ioClaimOf}
 use Rattle.rules.specs.Ports.{badWidth, notOurs, atLatch, otherFunction, latched, portWriteOf}
-use Rattle.rules.specs.Events.{Event, read, write, port-read, port-write, host-update, platform-reset, happens, run}
-use Rattle.rules.specs.Demand3.{Write-once, Read-only, Computed, Aperture, Refused, Reads, lockedWord, Read-back-2C, Read-back-2E, Read-back-E8}
-use Rattle.rules.specs.History.{firstWrite, overDefault}
-use Rattle.rules.proofs.EachBit.{each-bit-read}
+use Rattle.rules.specs.Events.{Event, read, write, port-read, port-write, host-update, end-signal, platform-reset, happens, run}
+use Rattle.rules.specs.Demand3.{Write-once, Read-only, Computed, Aperture, Refused, Reads, Busy, Ones, Dropped, Started, Unclaimed, Poll, lockedWord, Read-back-2C, Read-back-2E, Read-back-E8}
+use Rattle.rules.specs.History.{Seen, firstWrite, overDefault}
+use Rattle.rules.proofs.EachBit.{bit-after, write-state, each-bit-read}
 use Rattle.rules.proofs.Once.{once-history}
-use Rattle.rules.proofs.Fixed.{fixed-history}
+use Rattle.rules.proofs.Fixed.{fixed-history, default-holds}
+use Rattle.rules.proofs.Access.{good-offset}
+use Rattle.rules.proofs.Kept.{start-kept}
+use Rattle.rules.proofs.Runs.{seen-run}
 use Rattle.rules.proofs.Size.{never-10}
 use Rattle.rules.proofs.Aligned.{aligned}
 
@@ -36,13 +40,13 @@ write-once es f i j h k is = once-history f i j h k is es
 pub read-only : Read-only
 read-only es i j h k fixed = fixed-history i j h k fixed es
 
-pointer-read : (s : State) (b : Bool) → eqb (bit (byte s CAPL) 0) 1 ≡ b → readOf s CAPPOINT 1 ≡ ok (pick b 0xD0 0x90)
-unfolding readOf readValue readBit pointer numberOf rows rowAt classOf
-pointer-read s true e = rw e
-pointer-read s false e = rw e
+pointer-shown : (s : State) (b : Bool) → eqb (bit (byte s CAPL) 0) 1 ≡ b → byteOf (shownBit s CAPPOINT) ≡ pick b 0xD0 0x90
+unfolding shownBit pointer numberOf rows rowAt classOf
+pointer-shown s true e = rw e
+pointer-shown s false e = rw e
 
 pub list-pointer : Computed
-list-pointer es = pointer-read (run es) _ refl
+list-pointer es = pointer-shown (run es) _ refl
 
 pub aperture : Aperture
 aperture es = (eqb-false _ 2 (never-10 es), aligned es)
@@ -68,11 +72,46 @@ refused-changes-nothing (write o l v) s r = two (badOffset o) (badLanes l) _ _ s
 refused-changes-nothing (port-read p w) s r = refl
 refused-changes-nothing (port-write p w v) s r = three (badWidth w) (notOurs (s .latch) p w) (atLatch p w) (otherFunction (s .latch)) _ _ _ s (latched s v) _ r
 refused-changes-nothing (host-update o m v) s r = two (ltb 255 o) (notHost o m) _ _ s (hostStepOf s o m v) r
+refused-changes-nothing end-signal s r = absurd (r refl)
 refused-changes-nothing platform-reset s r = absurd (r refl)
 
 pub reads-change-nothing : Reads
 unfolding happens
 reads-change-nothing s a b = (refl, refl)
+
+-- ---- while a function reset is under way
+
+pub busy-is : Busy
+busy-is es = ap (λ (x : Seen). x .busy) (seen-run es)
+
+pub reads-ones : Ones
+unfolding readOf readValue readBit
+reads-ones s o l e = rw e
+
+pub drops-writes : Dropped
+unfolding stepOf
+drops-writes s o l v e = write-state s o l v ∙ rw e (go (not (either (badOffset o) (badLanes l))))
+  where
+    go : (a : Bool) → pick a s s ≡ s
+    go true = refl
+    go false = refl
+
+pub start-changes-nothing : Started
+unfolding stepOf
+start-changes-nothing s o l v i j good t h k = rw (write-state s o l v) (go (not (either (badOffset o) (badLanes l))) (busy s))
+  where
+    go : (a b : Bool) → bit (byte (pick a (pick b s (writtenOf s o l v)) s) i) j ≡ bit (byte s i) j
+    go true true = refl
+    go true false = bit-after s o l v i j h k ∙ start-kept s o l v i j (good-offset o good .1) t k
+    go false b = refl
+
+pub claims-nothing : Unclaimed
+unfolding memoryClaimOf ioClaimOf
+claims-nothing s a e = (rw e (go (eqb (bit (byte s PCICMD2) 1) 0)), rw e (go (eqb (bit (byte s PCICMD2) 0) 0)))
+  where
+    go : (a : Bool) → pick a unclaimed unclaimed ≡ unclaimed
+    go true = refl
+    go false = refl
 
 -- ---- what a guest reads back
 
@@ -80,13 +119,13 @@ reads-change-nothing s a b = (refl, refl)
 abbrev locked : Field → ℕ → Bool
 locked f at = allBelow 16 (λ (n : ℕ). sameClass (classOf (at + n / 8) (n % 8)) (once f))
 
-word-reads : (f : Field) (at : ℕ) → T (locked f at) → at + 1 < 256 → (es : List Event) → numberOf 16 (λ (n : ℕ). readBit (run es) (at + n / 8) (n % 8)) ≡ lockedWord f at es
-unfolding readBit
-word-reads f at t h es =
+word-reads : (f : Field) (at : ℕ) → T (locked f at) → at + 1 < 256 → (es : List Event) → busy (run es) ≡ false → numberOf 16 (λ (n : ℕ). readBit (run es) (at + n / 8) (n % 8)) ≡ lockedWord f at es
+unfolding readBit shownBit
+word-reads f at t h es q =
     number-ext 16 (λ (n : ℕ). readBit (run es) (at + n / 8) (n % 8)) (λ (n : ℕ). overDefault (firstWrite f es) (at + n / 8) (n % 8))
     (λ n k.
     let is : classOf (at + n / 8) (n % 8) ≡ once f = same-once (classOf (at + n / 8) (n % 8)) f (is-true _ (below 16 (λ (n : ℕ). sameClass (classOf (at + n / 8) (n % 8)) (once f)) t n k)) in
-    rw (is, not-computed f) (once-history f (at + n / 8) (n % 8) (omega arith) (omega arith) is es))
+    rw (q, is, not-computed f) (once-history f (at + n / 8) (n % 8) (omega arith) (omega arith) is es))
 
 -- lanes 3 are the low word, lanes 12 the high
 low-lanes : (n : ℕ) → n < 16 → (eqb (bit 3 (n / 8)) 1 ≡ true) × (eqb (bit 12 (n / 8)) 1 ≡ false)
@@ -127,16 +166,42 @@ sid2-locked = tt
 
 pub read-back-2C : Read-back-2C
 unfolding readOf
-read-back-2C es = ap ok (low-word (run es) SVID2 ∙ word-reads svid2 SVID2 svid2-locked (omega arith) es)
+read-back-2C es q = ap ok (low-word (run es) SVID2 ∙ word-reads svid2 SVID2 svid2-locked (omega arith) es q)
 
 pub read-back-2E : Read-back-2E
 unfolding readOf
-read-back-2E es = ap ok (high-word (run es) SVID2 ∙ ap (λ (x : ℕ). x * 2 ^ 16) (word-reads sid2 SID2 sid2-locked (omega arith) es))
+read-back-2E es q = ap ok (high-word (run es) SVID2 ∙ ap (λ (x : ℕ). x * 2 ^ 16) (word-reads sid2 SID2 sid2-locked (omega arith) es q))
+
+-- AFCTL has no bit that a guest write stores or the host has, and default 0
+afctl-at : ℕ → Bool
+afctl-at j = both (not (stores (classOf AFCTL j))) (both (not (isHost (classOf AFCTL j))) (both (not (sameClass (classOf AFCTL j) computed)) (eqb (bit (defaultAt AFCTL) j) 0)))
+
+all-afctl : T (allBelow 8 afctl-at)
+unfolding afctl-at rows rowAt classOf defaults
+all-afctl = tt
+
+afctl-shown : (es : List Event) (j : ℕ) → j < 8 → shownBit (run es) AFCTL j ≡ 0
+unfolding shownBit afctl-at
+afctl-shown es j h =
+    let t = below 8 afctl-at all-afctl j h in
+    let u = both-right (not (stores (classOf AFCTL j))) _ t in
+    let w = both-right (not (isHost (classOf AFCTL j))) _ u in
+    let own = is-false _ (both-left (not (isHost (classOf AFCTL j))) _ u) in
+    let plain : sameClass (classOf AFCTL j) computed ≡ false = is-false _ (both-left (not (sameClass (classOf AFCTL j) computed)) _ w) in
+    rw plain (default-holds AFCTL j (omega arith) h (is-false _ (both-left (not (stores (classOf AFCTL j))) _ t)) own es ∙ eqb→eq _ _ (both-right (not (sameClass (classOf AFCTL j) computed)) _ w))
+
+pub poll : Poll
+unfolding readOf readValue readBit numberOf
+poll es = ap ok (go (busy (run es)) refl)
+  where
+    go : (b : Bool) → busy (run es) ≡ b → readValue (run es) AFCTL 1 ≡ pick b 0xFF 0
+    go true e = rw e
+    go false e = rw (e, afctl-shown es 0 (omega arith), afctl-shown es 1 (omega arith), afctl-shown es 2 (omega arith), afctl-shown es 3 (omega arith), afctl-shown es 4 (omega arith), afctl-shown es 5 (omega arith), afctl-shown es 6 (omega arith), afctl-shown es 7 (omega arith))
 
 swsci-locked : classOf (SWSCI + 1) 7 ≡ once swsci15
 unfolding rows rowAt classOf
 swsci-locked = refl
 
 pub read-back-E8 : Read-back-E8
-unfolding readOf readBit
-read-back-E8 es = (readValue (run es) SWSCI 3, (refl, each-bit-read (run es) SWSCI 3 15 (omega arith) ∙ rw swsci-locked (once-history swsci15 (SWSCI + 1) 7 (omega arith) (omega arith) swsci-locked es)))
+unfolding readOf readBit shownBit
+read-back-E8 es q = (readValue (run es) SWSCI 3, (refl, each-bit-read (run es) SWSCI 3 15 (omega arith) ∙ rw (q, swsci-locked) (once-history swsci15 (SWSCI + 1) 7 (omega arith) (omega arith) swsci-locked es)))

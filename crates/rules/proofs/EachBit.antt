@@ -13,21 +13,27 @@ use Rattle.bits.proofs.Places.{getD-bytes}
 use Rattle.map.specs.Class.{computed, sameClass}
 use Rattle.map.specs.Map.{classOf}
 use Rattle.rules.specs.declared.State.{State}
-use Rattle.rules.specs.Access.{byte, badOffset, badLanes, done, refused}
-use Rattle.rules.specs.Guest.{bitAfter, stepOf, writeOf}
-use Rattle.rules.specs.Read.{pointer, readBit, readValue}
+use Rattle.rules.specs.Access.{byte, busy, badOffset, badLanes, done, refused}
+use Rattle.rules.specs.Guest.{bitAfter, writtenOf, stepOf, writeOf}
+use Rattle.rules.specs.Reset.{endedBit, endedOf, endOf}
+use Rattle.rules.specs.Read.{pointer, shownBit, readBit, readValue}
 use Rattle.rules.specs.Plain.{undriven}
 use Rattle.rules.specs.Host.{notHost, hostBit, hostStepOf, hostOf}
-use Rattle.rules.proofs.Access.{after<2}
+use Rattle.rules.proofs.Access.{after<2, ended<2}
 
 -- 256 bytes made of their bits: bit j of byte i
 of-bytes : (f : ℕ → ℕ → ℕ) → ((i j : ℕ) → f i j < 2) → (s : State) → s .bytes ≡ bytes (λ (i : ℕ). byteOf (f i)) → (i j : ℕ) → i < 256 → j < 8 → bit (byte s i) j ≡ f i j
 of-bytes f b s e i j h k = rw e (ap (λ (x : ℕ). bit x j) (getD-bytes (λ (i : ℕ). byteOf (f i)) i h) ∙ bit-number 8 (f i) (b i) j k)
 
 -- an accepted guest write
-pub bit-after : (s : State) (o l v i j : ℕ) → i < 256 → j < 8 → bit (byte (stepOf s o l v) i) j ≡ bitAfter s o l v i j
-unfolding stepOf
-bit-after s o l v i j h k = of-bytes (bitAfter s o l v) (after<2 s o l v) (stepOf s o l v) refl i j h k
+pub bit-after : (s : State) (o l v i j : ℕ) → i < 256 → j < 8 → bit (byte (writtenOf s o l v) i) j ≡ bitAfter s o l v i j
+unfolding writtenOf
+bit-after s o l v i j h k = of-bytes (bitAfter s o l v) (after<2 s o l v) (writtenOf s o l v) refl i j h k
+
+-- the end of a function reset
+pub bit-ended : (s : State) (i j : ℕ) → i < 256 → j < 8 → bit (byte (endedOf s) i) j ≡ endedBit s i j
+unfolding endedOf
+bit-ended s i j h k = of-bytes (endedBit s) (ended<2 s) (endedOf s) refl i j h k
 
 pub host<2 : (s : State) (o m v i j : ℕ) → hostBit s o m v i j < 2
 unfolding hostBit
@@ -56,11 +62,21 @@ host-state s o m v = two-refusals (ltb 255 o) (notHost o m) _ _ s (hostStepOf s 
 
 -- ---- the laws that a reader quotes, by the number n of the bit, below 2,048
 
-pub each-bit-written : (s : State) (o l v n : ℕ) → n < 2048 → bit (byte (writeOf s o l v .state) (n / 8)) (n % 8) ≡ pick (not (either (badOffset o) (badLanes l))) (bitAfter s o l v (n / 8) (n % 8)) (bit (byte s (n / 8)) (n % 8))
-each-bit-written s o l v n h = rw (write-state s o l v) (go (not (either (badOffset o) (badLanes l))))
+pub each-bit-written : (s : State) (o l v n : ℕ) → n < 2048 → bit (byte (writeOf s o l v .state) (n / 8)) (n % 8) ≡ pick (both (not (either (badOffset o) (badLanes l))) (not (busy s))) (bitAfter s o l v (n / 8) (n % 8)) (bit (byte s (n / 8)) (n % 8))
+unfolding stepOf
+each-bit-written s o l v n h = rw (write-state s o l v) (go (not (either (badOffset o) (badLanes l))) (busy s))
   where
-    go : (a : Bool) → bit (byte (pick a (stepOf s o l v) s) (n / 8)) (n % 8) ≡ pick a (bitAfter s o l v (n / 8) (n % 8)) (bit (byte s (n / 8)) (n % 8))
-    go true = bit-after s o l v (n / 8) (n % 8) (omega arith) (omega arith)
+    go : (a b : Bool) → bit (byte (pick a (pick b s (writtenOf s o l v)) s) (n / 8)) (n % 8) ≡ pick (both a (not b)) (bitAfter s o l v (n / 8) (n % 8)) (bit (byte s (n / 8)) (n % 8))
+    go true true = refl
+    go true false = bit-after s o l v (n / 8) (n % 8) (omega arith) (omega arith)
+    go false b = refl
+
+pub each-bit-ended : (s : State) (n : ℕ) → n < 2048 → bit (byte (endOf s) (n / 8)) (n % 8) ≡ pick (busy s) (endedBit s (n / 8) (n % 8)) (bit (byte s (n / 8)) (n % 8))
+unfolding endOf
+each-bit-ended s n h = go (busy s)
+  where
+    go : (b : Bool) → bit (byte (pick b (endedOf s) s) (n / 8)) (n % 8) ≡ pick b (endedBit s (n / 8) (n % 8)) (bit (byte s (n / 8)) (n % 8))
+    go true = bit-ended s (n / 8) (n % 8) (omega arith) (omega arith)
     go false = refl
 
 pub each-bit-updated : (s : State) (o m v n : ℕ) → n < 2048 → bit (byte (hostOf s o m v .state) (n / 8)) (n % 8) ≡ pick (not (either (ltb 255 o) (notHost o m))) (hostBit s o m v (n / 8) (n % 8)) (bit (byte s (n / 8)) (n % 8))
@@ -71,8 +87,8 @@ each-bit-updated s o m v n h = rw (host-state s o m v) (go (not (either (ltb 255
     go false = refl
 
 pub read<2 : (s : State) (i j : ℕ) → readBit s i j < 2
-unfolding readBit
-read<2 s i j = pick-has (λ (x : ℕ). x < 2) (sameClass (classOf i j) computed) (bit (pointer s) j) (bit (byte s i) j) (bit<2 (pointer s) j) (bit<2 (byte s i) j)
+unfolding readBit shownBit
+read<2 s i j = pick-has (λ (x : ℕ). x < 2) (busy s) 1 _ (omega arith) (pick-has (λ (x : ℕ). x < 2) (sameClass (classOf i j) computed) (bit (pointer s) j) (bit (byte s i) j) (bit<2 (pointer s) j) (bit<2 (byte s i) j))
 
 -- bit n of a read's value: that of the byte in its lane where the lane is enabled
 pub each-bit-read : (s : State) (o l n : ℕ) → n < 32 → bit (readValue s o l) n ≡ pick (eqb (bit l (n / 8)) 1) (readBit s (o + n / 8) (n % 8)) undriven

@@ -6,22 +6,23 @@ use Prim.Native.Nat.{ℕ, _<_}
 use lib.Dec.{T, eqb, ltb, eqb→eq}
 use Rattle.bits.specs.Bits.{bit}
 use Rattle.bits.specs.Choice.{pick, both, either, allBelow}
-use Rattle.bits.proofs.Below.{below, both-left, both-right, both-off, is-false, other, either-left, either-right}
+use Rattle.bits.proofs.Below.{below, both-left, both-right, is-false, other, pick-has}
 use borrow.Author.Tests.{eqb-true}
 use Rattle.map.specs.Class.{stores, isHost, resetStart, sameClass}
 use Rattle.map.specs.Map.{rows, rowAt, classOf, defaults, defaultAt}
 use Rattle.rules.specs.declared.State.{State}
-use Rattle.rules.specs.Access.{byte}
+use Rattle.rules.specs.Access.{byte, busy}
 use Rattle.rules.specs.Host.{notHost, hostBit, hostStepOf, hostOf}
+use Rattle.rules.specs.Reset.{endedOf, endOf}
 use Rattle.rules.specs.Fresh.{freshOf}
-use Rattle.rules.specs.Events.{Event, read, write, port-read, port-write, host-update, platform-reset, happens, next, run}
-use Rattle.rules.specs.History.{isReset, GuestWrite, none, at, guestWrite, gives, lastUpdate, orDefault}
+use Rattle.rules.specs.Events.{Event, read, write, port-read, port-write, host-update, end-signal, platform-reset, happens, next, run}
+use Rattle.rules.specs.History.{isReset, since, GuestWrite, none, at, guestWrite, gives, lastUpdate, orDefault}
 use Rattle.rules.specs.Past.{Given, nothing, given, orHeld}
-use Rattle.rules.proofs.Past.{history}
-use Rattle.rules.proofs.EachBit.{bit-after, bit-hosted, host-state}
-use Rattle.rules.proofs.Kept.{unstored, host-kept}
+use Rattle.rules.proofs.Past.{history, none-given}
+use Rattle.rules.proofs.EachBit.{bit-after, bit-hosted, bit-ended, host-state}
+use Rattle.rules.proofs.Kept.{unstored, unreturned}
 use Rattle.rules.proofs.Plain.{no-gift}
-use Rattle.rules.proofs.Runs.{reset-forgets, performed, write-effect, port-effect, always}
+use Rattle.rules.proofs.Runs.{reset-forgets, performed, seenOf, write-effect, port-effect}
 
 -- the bit that starts a function reset has default 0, and is not the host's
 start-at : ℕ → Bool
@@ -50,9 +51,13 @@ module _ (i j : ℕ) (h : i < 256) (k : j < 8) where
     abbrev Z : State → Type 0
     Z s = sameClass (classOf i j) resetStart ≡ true → B s ≡ 0
 
-    guest-bit : (g : GuestWrite) (s : State) → Z s → B (performed g s) ≡ B s
-    guest-bit none s z = refl
-    guest-bit (at o l v) s z = bit-after s o l v i j h k ∙ unstored s o l v i j fixed z
+    guest-bit : (g : GuestWrite) (s : State) → B (performed g s) ≡ B s
+    guest-bit none s = refl
+    guest-bit (at o l v) s = bit-after s o l v i j h k ∙ unstored s o l v i j fixed
+
+    end-bit : (s : State) → Z s → B (endOf s) ≡ B s
+    unfolding endOf
+    end-bit s z = pick-has (λ (t : State). B t ≡ B s) (busy s) (endedOf s) s (bit-ended s i j h k ∙ unreturned s i j fixed z) refl
 
     host-bit : (s : State) (o m v : ℕ) → B (hostOf s o m v .state) ≡ orHeld (gives i j (host-update o m v)) (B s)
     unfolding gives hostBit notHost
@@ -69,31 +74,30 @@ module _ (i j : ℕ) (h : i < 256) (k : j < 8) where
     event-bit : (e : Event) (s : State) → isReset e ≡ false → Z s → B (happens e s .state) ≡ orHeld (gives i j e) (B s)
     unfolding happens gives
     event-bit (read o l) s n z = refl
-    event-bit (write o l v) s n z = ap B (write-effect s o l v) ∙ guest-bit (guestWrite (s .latch) (write o l v)) s z
+    event-bit (write o l v) s n z = ap B (write-effect s o l v) ∙ guest-bit (guestWrite (seenOf s) (write o l v)) s
     event-bit (port-read p w) s n z = refl
-    event-bit (port-write p w v) s n z = ap B (port-effect s p w v) ∙ guest-bit (guestWrite (s .latch) (port-write p w v)) s z
+    event-bit (port-write p w v) s n z = ap B (port-effect s p w v) ∙ guest-bit (guestWrite (seenOf s) (port-write p w v)) s
     event-bit (host-update o m v) s n z = host-bit s o m v
+    event-bit end-signal s n z = end-bit s z
     event-bit platform-reset s n z = absurd (subst T n tt)
 
-    ungiven : (e : Event) → sameClass (classOf i j) resetStart ≡ true → gives i j e ≡ nothing
+    -- no event gives a bit that is not the host's
+    ungiven : isHost (classOf i j) ≡ false → (e : Event) → gives i j e ≡ nothing
     unfolding gives
-    ungiven (read o l) t = refl
-    ungiven (write o l v) t = refl
-    ungiven (port-read p w) t = refl
-    ungiven (port-write p w v) t = refl
-    ungiven (host-update o m v) t = no-gift (λ (i j : ℕ). isHost (classOf i j)) i j k (start-is i j h k t .1) o m v
-    ungiven platform-reset t = refl
+    ungiven own (read o l) = refl
+    ungiven own (write o l v) = refl
+    ungiven own (port-read p w) = refl
+    ungiven own (port-write p w v) = refl
+    ungiven own (host-update o m v) = no-gift (λ (i j : ℕ). isHost (classOf i j)) i j k own o m v
+    ungiven own end-signal = refl
+    ungiven own platform-reset = refl
 
     keeps : (e : Event) (s : State) → isReset e ≡ false → Z s → Z (happens e s .state)
-    keeps e s n z t = event-bit e s n z ∙ rw (ungiven e t) (z t)
+    keeps e s n z t = event-bit e s n z ∙ rw (ungiven (start-is i j h k t .1) e) (z t)
 
     pub fixed-history : (es : List Event) → B (run es) ≡ orDefault (lastUpdate i j es) i j
     fixed-history es = history isReset next freshOf reset-forgets B Z (gives i j) event-bit keeps (λ t. fresh-bit ∙ start-is i j h k t .0) es ∙ ap (orHeld (lastUpdate i j es)) fresh-bit
 
     -- not the host's either: it holds its default
-    pub default-holds : isHost (classOf i j) ≡ false → sameClass (classOf i j) resetStart ≡ false → (es : List Event) → B (run es) ≡ bit (defaultAt i) j
-    default-holds own plain es =
-        always (λ (s : State). B s ≡ bit (defaultAt i) j) fresh-bit
-        (λ s o l v d. bit-after s o l v i j h k ∙ unstored s o l v i j fixed (λ t. absurd (subst T (sym t ∙ plain) tt)) ∙ d)
-        (λ s o m v e d. bit-hosted s o m v i j h k ∙ host-kept s o m v i j k own e ∙ d)
-        (λ s x d. d) es
+    pub default-holds : isHost (classOf i j) ≡ false → (es : List Event) → B (run es) ≡ bit (defaultAt i) j
+    default-holds own es = fixed-history es ∙ rw (none-given (gives i j) (ungiven own) (since es))

@@ -10,11 +10,12 @@ use Rattle.bits.proofs.Places.{length-bytes, at-each}
 use Rattle.map.specs.Map.{defaultIn, rowAt, defaults}
 use Rattle.rules.specs.declared.State.{State}
 use Rattle.rules.specs.Access.{byte}
-use Rattle.rules.specs.Guest.{bitAfter, stepOf}
+use Rattle.rules.specs.Guest.{bitAfter, writtenOf}
+use Rattle.rules.specs.Reset.{endedBit, endedOf}
 use Rattle.rules.specs.Host.{hostBit, hostStepOf}
 use Rattle.rules.specs.Fresh.{freshOf}
 use Rattle.rules.specs.Events.{Event, happens}
-use Rattle.rules.proofs.Access.{after<2}
+use Rattle.rules.proofs.Access.{after<2, ended<2}
 use Rattle.rules.proofs.EachBit.{host<2}
 use Rattle.rules.proofs.Runs.{event-keeps}
 
@@ -33,13 +34,17 @@ fresh-good = record {
   fits = λ i. at-each (λ (x : ℕ). x < 2 ^ 8) 256 (λ (i : ℕ). defaultIn (rowAt i) i) 0 i (omega arith) (λ j. omega arith);
 }
 
-step-good : (s : State) (o l v : ℕ) → Good (stepOf s o l v)
-unfolding stepOf
+step-good : (s : State) (o l v : ℕ) → Good (writtenOf s o l v)
+unfolding writtenOf
 step-good s o l v = record { long = length-bytes (λ (i : ℕ). byteOf (bitAfter s o l v i)); fits = of-bits (bitAfter s o l v) (after<2 s o l v) }
 
 host-good : (s : State) (o m v : ℕ) → Good (hostStepOf s o m v)
 unfolding hostStepOf
 host-good s o m v = record { long = length-bytes (λ (i : ℕ). byteOf (hostBit s o m v i)); fits = of-bits (hostBit s o m v) (host<2 s o m v) }
 
+ended-good : (s : State) → Good (endedOf s)
+unfolding endedOf
+ended-good s = record { long = length-bytes (λ (i : ℕ). byteOf (endedBit s i)); fits = of-bits (endedBit s) (ended<2 s) }
+
 pub event-good : (e : Event) (s : State) → Good s → Good (happens e s .state)
-event-good e s g = event-keeps Good fresh-good (λ s o l v h. step-good s o l v) (λ s o m v e h. host-good s o m v) (λ s x h. record { long = h .long; fits = h .fits }) e s g
+event-good e s g = event-keeps Good fresh-good (λ s o l v h. step-good s o l v) (λ s o m v e h. host-good s o m v) (λ s h. ended-good s) (λ s x h. record { long = h .long; fits = h .fits }) e s g

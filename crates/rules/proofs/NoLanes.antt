@@ -1,5 +1,5 @@
 -- Lanes 0 is accepted, reads 0, and changes nothing.
-use mathlib.Core.Path.{_≡_, sym, _∙_}
+use mathlib.Core.Path.{_≡_, refl, sym, _∙_}
 use mathlib.Core.Bool.{false}
 use Prim.Native.Nat.{ℕ, _+_, _-_, _/_, _%_, _^_, _<_}
 use lib.Dec.{eqb, leb, ltb}
@@ -7,14 +7,14 @@ use lib.ListN.{length}
 use Rattle.bits.specs.Bits.{bit, byteOf}
 use Rattle.bits.specs.Choice.{pick, both}
 use Rattle.bits.proofs.Laws.{number-ext, number-bits, number-none, bit-zero}
-use Rattle.bits.proofs.Below.{both-off, none-any}
+use Rattle.bits.proofs.Below.{both-off, none-any, pick-has}
 use Rattle.bits.proofs.Places.{as-bytes}
 use Rattle.map.specs.Registers.{MSAC, AFCTL}
 use Rattle.map.specs.Class.{Field}
 use Rattle.rules.specs.declared.State.{State}
-use Rattle.rules.specs.declared.Closed.{Closed}
-use Rattle.rules.specs.Access.{byte, enabled}
-use Rattle.rules.specs.Guest.{ofField, touches, closedAfter, store, clear, reset, starts, storedBit, bitAfter, stepOf}
+use Rattle.rules.specs.declared.Flags.{Flags}
+use Rattle.rules.specs.Access.{byte, busy, enabled}
+use Rattle.rules.specs.Guest.{ofField, touches, flagsAfter, store, clear, starts, storedBit, bitAfter, writtenOf, stepOf}
 use Rattle.rules.specs.Read.{readBit, readValue}
 use Rattle.rules.specs.Plain.{undriven}
 
@@ -36,16 +36,16 @@ none-touched o f = none-any 4 (λ (k : ℕ). both (eqb (bit 0 k) 1) (ofField f (
 
 -- each bit stays
 pub no-lanes-bit : (s : State) (o v i j : ℕ) → bitAfter s o 0 v i j ≡ bit (byte s i) j
-unfolding bitAfter storedBit store clear reset starts
-no-lanes-bit s o v i j = rw (none-enabled o AFCTL, none-enabled o MSAC, none-enabled o i)
+unfolding bitAfter storedBit store clear
+no-lanes-bit s o v i j = rw (none-enabled o MSAC, none-enabled o i)
 
-no-lanes-closed : (o : ℕ) (c : Closed) → closedAfter o 0 c ≡ c
-unfolding closedAfter
-no-lanes-closed o c = simp none-touched
+no-lanes-flags : (o v : ℕ) (c : Flags) → flagsAfter o 0 v c ≡ c
+unfolding flagsAfter starts
+no-lanes-flags o v c = rw (none-enabled o AFCTL) (simp none-touched)
 
 -- so does the state, whose bytes are 256 bytes
 pub no-lanes-write : (s : State) (o v : ℕ) → length (s .bytes) ≡ 256 → ((i : ℕ) → byte s i < 2 ^ 8) → stepOf s o 0 v ≡ s
-unfolding stepOf
+unfolding stepOf writtenOf
 no-lanes-write s o v n b =
     let same = as-bytes (s .bytes) (λ (i : ℕ). byteOf (bitAfter s o 0 v i)) n (λ i h. sym (number-bits 8 (byte s i) (b i)) ∙ number-ext 8 (bit (byte s i)) (bitAfter s o 0 v i) (λ j k. sym (no-lanes-bit s o v i j))) in
-    rw (← same, no-lanes-closed o (s .closed))
+    pick-has (λ (t : State). t ≡ s) (busy s) s (writtenOf s o 0 v) refl (rw (← same, no-lanes-flags o v (s .flags)))

@@ -13,41 +13,39 @@ use Rattle.map.specs.Registers.{MSAC}
 use Rattle.map.specs.Class.{Field, svid2, sid2, swsci15, once, resetStart, sameClass}
 use Rattle.map.specs.Map.{classOf, defaultAt}
 use Rattle.rules.specs.declared.State.{State}
-use Rattle.rules.specs.Access.{byte, enabled, byteFor}
-use Rattle.rules.specs.Guest.{closed, sizeOf, takenBy, takes, store, storedBit, ofField, touches, closedAfter, stepOf}
+use Rattle.rules.specs.declared.Flags.{Flags}
+use Rattle.rules.specs.Access.{byte, busy, enabled, byteFor}
+use Rattle.rules.specs.Guest.{closed, sizeOf, takenBy, takes, store, storedBit, ofField, touches, flagsAfter, writtenOf}
+use Rattle.rules.specs.Reset.{idle, endedOf, endOf}
 use Rattle.rules.specs.Host.{notHost, hostStepOf, hostOf}
 use Rattle.rules.specs.Fresh.{freshOf}
-use Rattle.rules.specs.Events.{Event, read, write, port-read, port-write, host-update, platform-reset, happens, runFrom, run}
-use Rattle.rules.specs.History.{isReset, anyReset, since, latchAfter, GuestWrite, none, at, guestWrite, touching, firstFrom, firstWrite, overDefault}
+use Rattle.rules.specs.Events.{Event, read, write, port-read, port-write, host-update, end-signal, platform-reset, happens, runFrom, run}
+use Rattle.rules.specs.History.{isReset, anyReset, since, GuestWrite, none, at, acceptedWrite, guestWrite, atStart, seenNext, touching, firstFrom, firstWrite, overDefault}
 use Rattle.rules.proofs.Access.{enabled-within}
-use Rattle.rules.proofs.EachBit.{bit-after, bit-hosted, host-state}
-use Rattle.rules.proofs.Kept.{only-stored, stored-off, host-kept}
+use Rattle.rules.proofs.EachBit.{bit-after, bit-hosted, bit-ended, host-state}
+use Rattle.rules.proofs.Kept.{only-stored, stored-off, ended-off, host-kept}
 use Rattle.rules.specs.Past as P
 use Rattle.rules.specs.Past.{ran}
-use Rattle.rules.proofs.Runs.{run-since, since-none, performed, write-effect, port-effect}
+use Rattle.rules.proofs.Runs.{run-since, since-none, performed, seenOf, write-effect, port-effect, raised-up, seen-event}
 
 -- ---- flags
 
-closes : (b : Bool) (x : ℕ) → not (eqb (pick b 1 x) 0) ≡ either b (not (eqb x 0))
-closes true x = refl
-closes false x = refl
+closed-step : (f : Field) (s : State) (o l v : ℕ) → closed (writtenOf s o l v .flags) f ≡ either (touches o l f) (closed (s .flags) f)
+unfolding writtenOf flagsAfter
+closed-step svid2 s o l v = raised-up (touches o l svid2) (s .flags .svid2)
+closed-step sid2 s o l v = raised-up (touches o l sid2) (s .flags .sid2)
+closed-step swsci15 s o l v = raised-up (touches o l swsci15) (s .flags .swsci15)
 
-closed-step : (f : Field) (s : State) (o l v : ℕ) → closed (stepOf s o l v .closed) f ≡ either (touches o l f) (closed (s .closed) f)
-unfolding stepOf closedAfter
-closed-step svid2 s o l v = closes (touches o l svid2) (s .closed .svid2)
-closed-step sid2 s o l v = closes (touches o l sid2) (s .closed .sid2)
-closed-step swsci15 s o l v = closes (touches o l swsci15) (s .closed .swsci15)
-
-closed-performed : (f : Field) (g : GuestWrite) (s : State) → closed (performed g s .closed) f ≡ either (touching f g) (closed (s .closed) f)
+closed-performed : (f : Field) (g : GuestWrite) (s : State) → closed (performed g s .flags) f ≡ either (touching f g) (closed (s .flags) f)
 closed-performed f none s = refl
 closed-performed f (at o l v) s = closed-step f s o l v
 
-latch-performed : (g : GuestWrite) (s : State) → performed g s .latch ≡ s .latch
-unfolding stepOf
-latch-performed none s = refl
-latch-performed (at o l v) s = refl
+idle-closed : (f : Field) (c : Flags) → closed (idle c) f ≡ closed c f
+idle-closed svid2 c = refl
+idle-closed sid2 c = refl
+idle-closed swsci15 c = refl
 
-fresh-open : (f : Field) → closed (freshOf .closed) f ≡ false
+fresh-open : (f : Field) → closed (freshOf .flags) f ≡ false
 unfolding freshOf
 fresh-open svid2 = refl
 fresh-open sid2 = refl
@@ -89,22 +87,22 @@ module _ (f : Field) (i j : ℕ) (h : i < 256) (k : j < 8) (is : classOf i j ≡
   untouched : (o l : ℕ) → touches o l f ≡ false → enabled o l i ≡ false
   untouched o l e = false-unless (enabled o l i) (λ t. subst T (sym (touched o l t) ∙ e) tt)
 
-  step-bit : (s : State) (o l v : ℕ) → B (stepOf s o l v) ≡ storedBit s o l v i j
-  step-bit s o l v = bit-after s o l v i j h k ∙ only-stored s o l v i j (λ code. rw is (untaken f code)) (rw is) (rw is (no-start f))
+  step-bit : (s : State) (o l v : ℕ) → B (writtenOf s o l v) ≡ storedBit s o l v i j
+  step-bit s o l v = bit-after s o l v i j h k ∙ only-stored s o l v i j (λ code. rw is (untaken f code))
 
   -- closed: nothing is taken
-  closed-bit : (g : GuestWrite) (s : State) → closed (s .closed) f ≡ true → B (performed g s) ≡ B s
+  closed-bit : (g : GuestWrite) (s : State) → closed (s .flags) f ≡ true → B (performed g s) ≡ B s
   unfolding takes
   closed-bit none s c = refl
   closed-bit (at o l v) s c = step-bit s o l v ∙ stored-off s o l v i j (rw (is, c))
 
   -- open, at its default: the enabled byte over the default
-  open-bit : (g : GuestWrite) (s : State) → closed (s .closed) f ≡ false → B s ≡ bit (defaultAt i) j → B (performed g s) ≡ overDefault g i j
+  open-bit : (g : GuestWrite) (s : State) → closed (s .flags) f ≡ false → B s ≡ bit (defaultAt i) j → B (performed g s) ≡ overDefault g i j
   unfolding storedBit store takes
   open-bit none s c d = d
   open-bit (at o l v) s c d = step-bit s o l v ∙ go (enabled o l i)
     where
-      go : (e : Bool) → store e (s .closed) (sizeOf (byte s MSAC)) (byteFor o v i) i j (bit (byte s i) j) ≡ pick e (bit (byteFor o v i) j) (bit (defaultAt i) j)
+      go : (e : Bool) → store e (s .flags) (sizeOf (byte s MSAC)) (byteFor o v i) i j (bit (byte s i) j) ≡ pick e (bit (byteFor o v i) j) (bit (defaultAt i) j)
       go true = rw (is, c)
       go false = d
 
@@ -116,66 +114,75 @@ module _ (f : Field) (i j : ℕ) (h : i < 256) (k : j < 8) (is : classOf i j ≡
   -- ---- one event that is no platform reset, in the words of the history
 
   pub record After (e : Event) (s : State) : Type 0 where
-    pub latch : happens e s .state .latch ≡ latchAfter (s .latch) e
-    pub closes : closed (happens e s .state .closed) f ≡ either (touching f (guestWrite (s .latch) e)) (closed (s .closed) f)
-    pub bits : B (happens e s .state) ≡ B (performed (guestWrite (s .latch) e) s)
+    pub closes : closed (happens e s .state .flags) f ≡ either (touching f (guestWrite (seenOf s) e)) (closed (s .flags) f)
+    pub bits : B (happens e s .state) ≡ B (performed (guestWrite (seenOf s) e) s)
 
-  hosted : (s : State) (o m v : ℕ) → (hostOf s o m v .state .latch ≡ s .latch) × ((closed (hostOf s o m v .state .closed) f ≡ closed (s .closed) f) × (B (hostOf s o m v .state) ≡ B s))
+  hosted : (s : State) (o m v : ℕ) → (closed (hostOf s o m v .state .flags) f ≡ closed (s .flags) f) × (B (hostOf s o m v .state) ≡ B s)
   unfolding hostStepOf
   hosted s o m v = rw (host-state s o m v) (go (ltb 255 o) (notHost o m) refl)
     where
-      go : (a b : Bool) → notHost o m ≡ b → (pick (not (either a b)) (hostStepOf s o m v) s .latch ≡ s .latch) × ((closed (pick (not (either a b)) (hostStepOf s o m v) s .closed) f ≡ closed (s .closed) f) × (B (pick (not (either a b)) (hostStepOf s o m v) s) ≡ B s))
-      go true b e = (refl, (refl, refl))
-      go false true e = (refl, (refl, refl))
-      go false false e = (refl, (refl, bit-hosted s o m v i j h k ∙ host-kept s o m v i j k (rw is) e))
+      go : (a b : Bool) → notHost o m ≡ b → (closed (pick (not (either a b)) (hostStepOf s o m v) s .flags) f ≡ closed (s .flags) f) × (B (pick (not (either a b)) (hostStepOf s o m v) s) ≡ B s)
+      go true b e = (refl, refl)
+      go false true e = (refl, refl)
+      go false false e = (refl, bit-hosted s o m v i j h k ∙ host-kept s o m v i j k (rw is) e)
+
+  -- an end signal leaves the field closed or open, and its bits
+  ended : (s : State) → (closed (endOf s .flags) f ≡ closed (s .flags) f) × (B (endOf s) ≡ B s)
+  unfolding endOf endedOf
+  ended s = go (busy s)
+    where
+      go : (b : Bool) → (closed (pick b (endedOf s) s .flags) f ≡ closed (s .flags) f) × (B (pick b (endedOf s) s) ≡ B s)
+      go true = (idle-closed f (s .flags), bit-ended s i j h k ∙ ended-off s i j (rw is) (rw is (no-start f)))
+      go false = (refl, refl)
 
   event : (e : Event) (s : State) → isReset e ≡ false → After e s
-  unfolding happens guestWrite
-  event (read o l) s n = record { latch = refl; closes = refl; bits = refl }
+  unfolding happens acceptedWrite
+  event (read o l) s n = record { closes = refl; bits = refl }
   event (write o l v) s n =
-      let g = guestWrite (s .latch) (write o l v) in
+      let g = guestWrite (seenOf s) (write o l v) in
       let q = write-effect s o l v in
-      record { latch = ap (λ (x : State). x .latch) q ∙ latch-performed g s; closes = ap (λ (x : State). closed (x .closed) f) q ∙ closed-performed f g s; bits = ap B q }
-  event (port-read p w) s n = record { latch = refl; closes = refl; bits = refl }
+      record { closes = ap (λ (x : State). closed (x .flags) f) q ∙ closed-performed f g s; bits = ap B q }
+  event (port-read p w) s n = record { closes = refl; bits = refl }
   event (port-write p w v) s n =
-      let g = guestWrite (s .latch) (port-write p w v) in
+      let g = guestWrite (seenOf s) (port-write p w v) in
       let q = port-effect s p w v in
-      record { latch = ap (λ (x : State). x .latch) q; closes = ap (λ (x : State). closed (x .closed) f) q ∙ closed-performed f g s; bits = ap B q }
-  event (host-update o m v) s n = let q = hosted s o m v in record { latch = q .0; closes = q .1 .0; bits = q .1 .1 }
+      record { closes = ap (λ (x : State). closed (x .flags) f) q ∙ closed-performed f g s; bits = ap B q }
+  event (host-update o m v) s n = let q = hosted s o m v in record { closes = q .0; bits = q .1 }
+  event end-signal s n = let q = ended s in record { closes = q .0; bits = q .1 }
   event platform-reset s n = absurd (subst T n tt)
 
   -- ---- runs without a platform reset
 
-  closed-run : (es : List Event) (s : State) → anyReset es ≡ false → closed (s .closed) f ≡ true → B (runFrom s es) ≡ B s
+  closed-run : (es : List Event) (s : State) → anyReset es ≡ false → closed (s .flags) f ≡ true → B (runFrom s es) ≡ B s
   unfolding ran P.anyReset
   closed-run [] s n c = refl
   closed-run (e ∷ es) s n c =
       let a = event e s (either-left (isReset e) (anyReset es) n) in
-      closed-run es (happens e s .state) (either-right (isReset e) (anyReset es) n) (a .closes ∙ rw c (either-on (touching f (guestWrite (s .latch) e)))) ∙ a .bits ∙ closed-bit (guestWrite (s .latch) e) s c
+      closed-run es (happens e s .state) (either-right (isReset e) (anyReset es) n) (a .closes ∙ rw c (either-on (touching f (guestWrite (seenOf s) e)))) ∙ a .bits ∙ closed-bit (guestWrite (seenOf s) e) s c
     where
       either-on : (b : Bool) → either b true ≡ true
       either-on true = refl
       either-on false = refl
 
-  open-run : (es : List Event) (s : State) → anyReset es ≡ false → closed (s .closed) f ≡ false → B s ≡ bit (defaultAt i) j → B (runFrom s es) ≡ overDefault (firstFrom (s .latch) f es) i j
+  open-run : (es : List Event) (s : State) → anyReset es ≡ false → closed (s .flags) f ≡ false → B s ≡ bit (defaultAt i) j → B (runFrom s es) ≡ overDefault (firstFrom (seenOf s) f es) i j
   unfolding ran P.anyReset firstFrom
   open-run [] s n c d = d
-  open-run (e ∷ es) s n c d = go (touching f (guestWrite (s .latch) e)) refl (λ q r. open-run es (happens e s .state) (either-right (isReset e) (anyReset es) n) q r)
+  open-run (e ∷ es) s n c d = go (touching f (guestWrite (seenOf s) e)) refl (λ q r. open-run es (happens e s .state) (either-right (isReset e) (anyReset es) n) q r)
     where
       a : After e s
       a = event e s (either-left (isReset e) (anyReset es) n)
 
-      go : (t : Bool) → touching f (guestWrite (s .latch) e) ≡ t → (closed (happens e s .state .closed) f ≡ false → B (happens e s .state) ≡ bit (defaultAt i) j → B (runFrom (happens e s .state) es) ≡ overDefault (firstFrom (happens e s .state .latch) f es) i j) → B (runFrom (happens e s .state) es) ≡ overDefault (pick t (guestWrite (s .latch) e) (firstFrom (latchAfter (s .latch) e) f es)) i j
-      go true t ih = closed-run es (happens e s .state) (either-right (isReset e) (anyReset es) n) (a .closes ∙ rw t) ∙ a .bits ∙ open-bit (guestWrite (s .latch) e) s c d
-      go false t ih = rw (← a .latch) (ih (a .closes ∙ rw (t, c)) (a .bits ∙ open-bit (guestWrite (s .latch) e) s c d ∙ untouched-bit (guestWrite (s .latch) e) t))
+      go : (t : Bool) → touching f (guestWrite (seenOf s) e) ≡ t → (closed (happens e s .state .flags) f ≡ false → B (happens e s .state) ≡ bit (defaultAt i) j → B (runFrom (happens e s .state) es) ≡ overDefault (firstFrom (seenOf (happens e s .state)) f es) i j) → B (runFrom (happens e s .state) es) ≡ overDefault (pick t (guestWrite (seenOf s) e) (firstFrom (seenNext e (seenOf s)) f es)) i j
+      go true t ih = closed-run es (happens e s .state) (either-right (isReset e) (anyReset es) n) (a .closes ∙ rw t) ∙ a .bits ∙ open-bit (guestWrite (seenOf s) e) s c d
+      go false t ih = rw (← seen-event e s) (ih (a .closes ∙ rw (t, c)) (a .bits ∙ open-bit (guestWrite (seenOf s) e) s c d ∙ untouched-bit (guestWrite (seenOf s) e) t))
 
   fresh-bit : B freshOf ≡ bit (defaultAt i) j
   unfolding freshOf
   fresh-bit = refl
 
-  fresh-latch : freshOf .latch ≡ 0
+  fresh-seen : seenOf freshOf ≡ atStart
   unfolding freshOf
-  fresh-latch = refl
+  fresh-seen = refl
 
   pub once-history : (es : List Event) → B (run es) ≡ overDefault (firstWrite f es) i j
-  once-history es = ap B (run-since es) ∙ open-run (since es) freshOf (since-none es) (fresh-open f) fresh-bit ∙ rw fresh-latch
+  once-history es = ap B (run-since es) ∙ open-run (since es) freshOf (since-none es) (fresh-open f) fresh-bit ∙ rw fresh-seen

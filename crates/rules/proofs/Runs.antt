@@ -1,20 +1,21 @@
 -- Events and runs: what an event comes to, the events since the last platform reset, and what every run keeps.
-use mathlib.Core.Path.{_≡_, refl, sym, subst, _∙_}
+use mathlib.Core.Path.{_≡_, refl, sym, ap, subst, _∙_}
 use mathlib.Core.List.{List, [], _∷_}
 use mathlib.Core.Bool.{Bool, true, false, not}
 use Prim.Native.Nat.{ℕ, _-_}
 use lib.Dec.{T, eqb, ltb, eqb→eq}
 use Rattle.bits.specs.Choice.{pick, either}
-use Rattle.bits.proofs.Below.{both-right}
+use Rattle.bits.proofs.Below.{both-right, pick-has}
 use Rattle.answer.specs.Refusals.{WIDTH, NOT-OURS, OTHER-FUNCTION}
 use Rattle.rules.specs.declared.State.{State}
-use Rattle.rules.specs.Access.{badOffset, badLanes, done, refused}
-use Rattle.rules.specs.Guest.{stepOf, writeOf}
+use Rattle.rules.specs.Access.{up, busy, badOffset, badLanes, done, refused}
+use Rattle.rules.specs.Guest.{starts, raised, flagsAfter, writtenOf, stepOf, writeOf}
+use Rattle.rules.specs.Reset.{endedOf, endOf}
 use Rattle.rules.specs.Host.{notHost, hostStepOf}
 use Rattle.rules.specs.Fresh.{freshOf}
 use Rattle.rules.specs.Ports.{ADDRESS, DATA, badWidth, atLatch, notOurs, otherFunction, latchOf, latched, dwordOf, portLanes, placed, portWriteOf}
-use Rattle.rules.specs.Events.{Event, read, write, port-read, port-write, host-update, platform-reset, happens, next, runFrom, run}
-use Rattle.rules.specs.History.{isReset, anyReset, since, latchAfter, GuestWrite, none, at, guestWrite}
+use Rattle.rules.specs.Events.{Event, read, write, port-read, port-write, host-update, end-signal, platform-reset, happens, next, runFrom, run}
+use Rattle.rules.specs.History.{isReset, anyReset, since, latchAfter, GuestWrite, none, at, acceptedWrite, unlessBusy, guestWrite, starting, Seen, atStart, seenNext, seen}
 use Rattle.rules.specs.Past.{ran}
 use Rattle.rules.proofs.EachBit.{write-state, host-state}
 use Rattle.rules.proofs.Past as P
@@ -29,6 +30,7 @@ reset-forgets (write o l v) s e = absurd (subst T (sym e) tt)
 reset-forgets (port-read p w) s e = absurd (subst T (sym e) tt)
 reset-forgets (port-write p w v) s e = absurd (subst T (sym e) tt)
 reset-forgets (host-update o m v) s e = absurd (subst T (sym e) tt)
+reset-forgets end-signal s e = absurd (subst T (sym e) tt)
 reset-forgets platform-reset s e = refl
 
 -- a run is the run of what came since
@@ -43,10 +45,14 @@ since-none es = P.since-none isReset es
 -- the state after a guest write, if there is one
 abbrev pub performed : GuestWrite → State → State
 performed none s = s
-performed (at o l v) s = stepOf s o l v
+performed (at o l v) s = writtenOf s o l v
+
+-- what the state tells of the events before
+abbrev pub seenOf : State → Seen
+seenOf s = record { latch = s .latch; busy = busy s }
 
 abbrev pub withLatch : ℕ → State → State
-withLatch x s = record { bytes = s .bytes; latch = x; closed = s .closed }
+withLatch x s = record { bytes = s .bytes; latch = x; flags = s .flags }
 
 -- 4 bytes at CF8h are of a right width
 latch-width : (p w : ℕ) → atLatch p w ≡ true → badWidth w ≡ false
@@ -54,17 +60,19 @@ latch-width p w e =
     let four : w ≡ 4 = eqb→eq w 4 (both-right (eqb p ADDRESS) (eqb w 4) (subst T (sym e) tt)) in
     rw four
 
-pub write-effect : (s : State) (o l v : ℕ) → writeOf s o l v .state ≡ performed (guestWrite (s .latch) (write o l v)) s
-unfolding guestWrite
-write-effect s o l v = write-state s o l v ∙ go (either (badOffset o) (badLanes l))
+pub write-effect : (s : State) (o l v : ℕ) → writeOf s o l v .state ≡ performed (guestWrite (seenOf s) (write o l v)) s
+unfolding acceptedWrite stepOf
+write-effect s o l v = write-state s o l v ∙ go (either (badOffset o) (badLanes l)) (busy s)
   where
-    go : (b : Bool) → pick (not b) (stepOf s o l v) s ≡ performed (pick b none (at o l v)) s
-    go true = refl
-    go false = refl
+    go : (a b : Bool) → pick (not a) (pick b s (writtenOf s o l v)) s ≡ performed (unlessBusy b (pick a none (at o l v))) s
+    go true true = refl
+    go true false = refl
+    go false true = refl
+    go false false = refl
 
-pub port-effect : (s : State) (p w v : ℕ) → portWriteOf s p w v .state ≡ withLatch (latchAfter (s .latch) (port-write p w v)) (performed (guestWrite (s .latch) (port-write p w v)) s)
-unfolding portWriteOf notOurs guestWrite stepOf
-port-effect s p w v = go (badWidth w) (notOurs (s .latch) p w) (atLatch p w) (otherFunction (s .latch)) refl refl refl
+pub port-effect : (s : State) (p w v : ℕ) → portWriteOf s p w v .state ≡ withLatch (latchAfter (s .latch) (port-write p w v)) (performed (guestWrite (seenOf s) (port-write p w v)) s)
+unfolding portWriteOf notOurs acceptedWrite stepOf writtenOf
+port-effect s p w v = go (badWidth w) (notOurs (s .latch) p w) (atLatch p w) (otherFunction (s .latch)) (busy s) refl refl refl
   where
     o : ℕ
     o = dwordOf (s .latch)
@@ -75,36 +83,78 @@ port-effect s p w v = go (badWidth w) (notOurs (s .latch) p w) (atLatch p w) (ot
     x : ℕ
     x = placed v (p - DATA) w
 
-    go : (a b c d : Bool) → badWidth w ≡ a → notOurs (s .latch) p w ≡ b → atLatch p w ≡ c → pick a (refused WIDTH s) (pick b (refused NOT-OURS s) (pick c (done (latched s v)) (pick d (refused OTHER-FUNCTION s) (done (stepOf s o l x))))) .state ≡ withLatch (pick c (latchOf v) (s .latch)) (performed (pick (either a (either b (either c d))) none (at o l x)) s)
-    go true b true d ea eb ec = absurd (subst T (sym ea ∙ latch-width p w ec) tt)
-    go true b false d ea eb ec = refl
-    go false true true d ea eb ec =
+    go : (a b c d e : Bool) → badWidth w ≡ a → notOurs (s .latch) p w ≡ b → atLatch p w ≡ c → pick a (refused WIDTH s) (pick b (refused NOT-OURS s) (pick c (done (latched s v)) (pick d (refused OTHER-FUNCTION s) (done (pick e s (writtenOf s o l x)))))) .state ≡ withLatch (pick c (latchOf v) (s .latch)) (performed (unlessBusy e (pick (either a (either b (either c d))) none (at o l x))) s)
+    go true b true d e ea eb ec = absurd (subst T (sym ea ∙ latch-width p w ec) tt)
+    go true b false d e ea eb ec = refl
+    go false true true d e ea eb ec =
         let ours : notOurs (s .latch) p w ≡ false = rw ec in
         absurd (subst T (sym eb ∙ ours) tt)
-    go false true false d ea eb ec = refl
-    go false false true d ea eb ec = refl
-    go false false false true ea eb ec = refl
-    go false false false false ea eb ec = refl
+    go false true false d e ea eb ec = refl
+    go false false true d e ea eb ec = refl
+    go false false false true e ea eb ec = refl
+    go false false false false true ea eb ec = refl
+    go false false false false false ea eb ec = refl
 
--- ---- what every run keeps: what the fresh state has, and guest writes, host updates and the latch leave
+-- ---- what is seen
 
-module _ (P : State → Type 0) (fresh : P freshOf) (step : (s : State) (o l v : ℕ) → P s → P (stepOf s o l v)) (host : (s : State) (o m v : ℕ) → notHost o m ≡ false → P s → P (hostStepOf s o m v)) (latch : (s : State) (x : ℕ) → P s → P (withLatch x s)) where
+pub raised-up : (b : Bool) (x : ℕ) → up (raised b x) ≡ either b (up x)
+raised-up true x = refl
+raised-up false x = refl
+
+seen-performed : (g : GuestWrite) (s : State) → seenOf (performed g s) ≡ record { latch = s .latch; busy = either (starting g) (busy s) }
+unfolding writtenOf flagsAfter
+seen-performed none s = refl
+seen-performed (at o l v) s = rw (raised-up (starts o l v) (s .flags .busy))
+
+-- each event in turn: what the state tells is what the events tell
+pub seen-event : (e : Event) (s : State) → seenOf (happens e s .state) ≡ seenNext e (seenOf s)
+unfolding happens endOf endedOf hostStepOf freshOf
+seen-event (read o l) s = refl
+seen-event (write o l v) s = ap seenOf (write-effect s o l v) ∙ seen-performed (guestWrite (seenOf s) (write o l v)) s
+seen-event (port-read p w) s = refl
+seen-event (port-write p w v) s =
+    let g = guestWrite (seenOf s) (port-write p w v) in
+    ap seenOf (port-effect s p w v) ∙ ap (λ (x : Seen). record { latch = latchAfter (s .latch) (port-write p w v); busy = x .busy }) (seen-performed g s)
+seen-event (host-update o m v) s = rw (host-state s o m v) (go (not (either (ltb 255 o) (notHost o m))))
+  where
+    go : (a : Bool) → seenOf (pick a (hostStepOf s o m v) s) ≡ seenOf s
+    go true = refl
+    go false = refl
+seen-event end-signal s = go (busy s) refl
+  where
+    go : (b : Bool) → busy s ≡ b → seenOf (pick b (endedOf s) s) ≡ record { latch = s .latch; busy = false }
+    go true e = refl
+    go false e = rw e
+seen-event platform-reset s = refl
+
+pub seen-run : (es : List Event) → seenOf (run es) ≡ seen es
+unfolding freshOf ran
+seen-run es = go es freshOf
+  where
+    go : (es : List Event) (s : State) → seenOf (runFrom s es) ≡ ran seenNext (seenOf s) es
+    go [] s = refl
+    go (e ∷ es) s = go es (happens e s .state) ∙ ap (λ (x : Seen). ran seenNext x es) (seen-event e s)
+
+-- ---- what every run keeps: what the fresh state has, and guest writes, host updates, ends of function resets and the latch leave
+
+module _ (P : State → Type 0) (fresh : P freshOf) (step : (s : State) (o l v : ℕ) → P s → P (writtenOf s o l v)) (host : (s : State) (o m v : ℕ) → notHost o m ≡ false → P s → P (hostStepOf s o m v)) (ended : (s : State) → P s → P (endedOf s)) (latch : (s : State) (x : ℕ) → P s → P (withLatch x s)) where
   performed-keeps : (g : GuestWrite) (s : State) → P s → P (performed g s)
   performed-keeps none s h = h
   performed-keeps (at o l v) s h = step s o l v h
 
   pub event-keeps : (e : Event) (s : State) → P s → P (happens e s .state)
-  unfolding happens
+  unfolding happens endOf
   event-keeps (read o l) s h = h
-  event-keeps (write o l v) s h = rw (write-effect s o l v) (performed-keeps (guestWrite (s .latch) (write o l v)) s h)
+  event-keeps (write o l v) s h = rw (write-effect s o l v) (performed-keeps (guestWrite (seenOf s) (write o l v)) s h)
   event-keeps (port-read p w) s h = h
-  event-keeps (port-write p w v) s h = rw (port-effect s p w v) (latch _ _ (performed-keeps (guestWrite (s .latch) (port-write p w v)) s h))
+  event-keeps (port-write p w v) s h = rw (port-effect s p w v) (latch _ _ (performed-keeps (guestWrite (seenOf s) (port-write p w v)) s h))
   event-keeps (host-update o m v) s h = rw (host-state s o m v) (go (ltb 255 o) (notHost o m) refl)
     where
       go : (a b : Bool) → notHost o m ≡ b → P (pick (not (either a b)) (hostStepOf s o m v) s)
       go true b e = h
       go false true e = h
       go false false e = host s o m v e h
+  event-keeps end-signal s h = pick-has P (busy s) (endedOf s) s (ended s h) h
   event-keeps platform-reset s h = fresh
 
   runFrom-keeps : (es : List Event) (s : State) → P s → P (runFrom s es)

@@ -14,15 +14,16 @@ use Rattle.map.specs.Registers.{GMADR, MSAC}
 use Rattle.map.specs.Class.{aperture, hasF, isHost, resetStart, sameClass}
 use Rattle.map.specs.Map.{rows, rowAt, classOf, defaults, defaultAt}
 use Rattle.rules.specs.declared.State.{State}
-use Rattle.rules.specs.declared.Closed.{Closed}
+use Rattle.rules.specs.declared.Flags.{Flags}
 use Rattle.rules.specs.Access.{byte, enabled, byteFor}
-use Rattle.rules.specs.Guest.{sizeOf, takenBy, takes, store, clear, reset, starts, storedBit, sizeAfter, bitAfter, stepOf}
+use Rattle.rules.specs.Guest.{sizeOf, takenBy, takes, store, clear, storedBit, sizeAfter, bitAfter, writtenOf}
+use Rattle.rules.specs.Reset.{reset, endedBit, endedOf}
 use Rattle.rules.specs.Host.{notHost, hostBit, hostStepOf}
 use Rattle.rules.specs.Fresh.{freshOf}
 use Rattle.rules.specs.Events.{Event, run}
 use Rattle.rules.proofs.Access.{after<2, stored<2, outside, no-aperture}
-use Rattle.rules.proofs.EachBit.{bit-after, bit-hosted}
-use Rattle.rules.proofs.Kept.{only-stored, stored-off, host-kept}
+use Rattle.rules.proofs.EachBit.{bit-after, bit-hosted, bit-ended}
+use Rattle.rules.proofs.Kept.{only-stored, stored-off, ended-off, host-kept}
 use Rattle.rules.proofs.Runs.{always}
 
 -- ---- MSAC after a write and after a host update
@@ -38,14 +39,14 @@ msac-at j h =
     let u = both-right (not (hasF (classOf MSAC j))) _ t in
     (is-false _ (both-left (not (hasF (classOf MSAC j))) _ t), (is-false _ (both-left (not (sameClass (classOf MSAC j) resetStart)) _ u), is-false _ (both-right (not (sameClass (classOf MSAC j) resetStart)) _ u)))
 
-byte-after : (s : State) (o l v i : ℕ) → i < 256 → byte (stepOf s o l v) i ≡ byteOf (bitAfter s o l v i)
-unfolding stepOf
+byte-after : (s : State) (o l v i : ℕ) → i < 256 → byte (writtenOf s o l v) i ≡ byteOf (bitAfter s o l v i)
+unfolding writtenOf
 byte-after s o l v i h = getD-bytes (λ (i : ℕ). byteOf (bitAfter s o l v i)) i h
 
-size-after : (s : State) (o l v : ℕ) → sizeOf (byte (stepOf s o l v) MSAC) ≡ sizeAfter s o l v
+size-after : (s : State) (o l v : ℕ) → sizeOf (byte (writtenOf s o l v) MSAC) ≡ sizeAfter s o l v
 unfolding sizeAfter
 size-after s o l v =
-    ap sizeOf (byte-after s o l v MSAC (omega arith) ∙ number-ext 8 (bitAfter s o l v MSAC) (storedBit s o l v MSAC) (λ j k. only-stored s o l v MSAC j (λ code. no-aperture code MSAC j (omega arith) (λ e. omega arith) k) (msac-at j k .0) (msac-at j k .1 .0)))
+    ap sizeOf (byte-after s o l v MSAC (omega arith) ∙ number-ext 8 (bitAfter s o l v MSAC) (storedBit s o l v MSAC) (λ j k. only-stored s o l v MSAC j (λ code. no-aperture code MSAC j (omega arith) (λ e. omega arith) k)))
 
 size-kept : (s : State) (o l v : ℕ) → byte s MSAC < 2 ^ 8 → enabled o l MSAC ≡ false → sizeAfter s o l v ≡ sizeOf (byte s MSAC)
 unfolding sizeAfter
@@ -57,7 +58,13 @@ msac-hosted s o m v b e =
     getD-bytes (λ (i : ℕ). byteOf (hostBit s o m v i)) MSAC (omega arith)
     ∙ number-ext 8 (hostBit s o m v MSAC) (bit (byte s MSAC)) (λ j k. host-kept s o m v MSAC j k (msac-at j k .1 .1) e) ∙ number-bits 8 (byte s MSAC) b
 
-msac< : (s : State) (o l v : ℕ) → byte (stepOf s o l v) MSAC < 2 ^ 8
+msac-ended : (s : State) → byte s MSAC < 2 ^ 8 → byte (endedOf s) MSAC ≡ byte s MSAC
+unfolding endedOf
+msac-ended s b =
+    getD-bytes (λ (i : ℕ). byteOf (endedBit s i)) MSAC (omega arith)
+    ∙ number-ext 8 (endedBit s MSAC) (bit (byte s MSAC)) (λ j k. ended-off s MSAC j (msac-at j k .0) (msac-at j k .1 .0)) ∙ number-bits 8 (byte s MSAC) b
+
+msac< : (s : State) (o l v : ℕ) → byte (writtenOf s o l v) MSAC < 2 ^ 8
 msac< s o l v = rw (byte-after s o l v MSAC (omega arith)) (number< 8 (bitAfter s o l v MSAC) (after<2 s o l v MSAC))
 
 -- ---- one bit of the aperture
@@ -68,24 +75,23 @@ module _ (i j b : ℕ) (h : i < 256) (k : j < 8) (is : classOf i j ≡ aperture 
     fits : byte s MSAC < 2 ^ 8
     clear : takenBy (sizeOf (byte s MSAC)) (aperture b) ≡ true → bit (byte s i) j ≡ 0
 
-  reset-zero : (e : Bool) (x : ℕ) → x ≡ 0 → reset e i j x ≡ 0
-  unfolding reset
-  reset-zero true x z = rw is zero-default
-  reset-zero false x z = z
+  ended-zero : (s : State) → endedBit s i j ≡ 0
+  unfolding endedBit reset
+  ended-zero s = rw is zero-default
 
   clear-zero : (e : Bool) (code x : ℕ) → takenBy code (aperture b) ≡ true → (e ≡ false → x ≡ 0) → clear e code i j x ≡ 0
   unfolding clear
   clear-zero true code x t z = rw (is, t)
   clear-zero false code x t z = z refl
 
-  step-stands : (s : State) (o l v : ℕ) → Stands s → Stands (stepOf s o l v)
+  step-stands : (s : State) (o l v : ℕ) → Stands s → Stands (writtenOf s o l v)
   unfolding bitAfter takes
   step-stands s o l v st = record {
     fits = msac< s o l v;
     clear = λ t.
         let u : takenBy (sizeAfter s o l v) (aperture b) ≡ true = rw (size-after s o l v) at t in
-        bit-after s o l v i j h k ∙ reset-zero (starts o l v) _ (clear-zero (enabled o l MSAC) (sizeAfter s o l v) (storedBit s o l v i j) u
-        (λ e. let w : takenBy (sizeOf (byte s MSAC)) (aperture b) ≡ true = rw (size-kept s o l v (st .fits) e) at u in stored-off s o l v i j (rw (is, w)) ∙ st .clear w));
+        bit-after s o l v i j h k ∙ clear-zero (enabled o l MSAC) (sizeAfter s o l v) (storedBit s o l v i j) u
+        (λ e. let w : takenBy (sizeOf (byte s MSAC)) (aperture b) ≡ true = rw (size-kept s o l v (st .fits) e) at u in stored-off s o l v i j (rw (is, w)) ∙ st .clear w);
   }
 
   host-stands : (s : State) (o m v : ℕ) → notHost o m ≡ false → Stands s → Stands (hostStepOf s o m v)
@@ -94,12 +100,15 @@ module _ (i j b : ℕ) (h : i < 256) (k : j < 8) (is : classOf i j ≡ aperture 
     clear = λ t. bit-hosted s o m v i j h k ∙ host-kept s o m v i j k (rw is) n ∙ st .clear (rw (msac-hosted s o m v (st .fits) n) at t);
   }
 
+  ended-stands : (s : State) → Stands s → Stands (endedOf s)
+  ended-stands s st = record { fits = rw (msac-ended s (st .fits)) (st .fits); clear = λ t. bit-ended s i j h k ∙ ended-zero s }
+
   fresh-stands : Stands freshOf
   unfolding freshOf defaults rows rowAt
   fresh-stands = record { fits = omega arith; clear = λ t. zero-default }
 
   pub taken-zero : (es : List Event) → takenBy (sizeOf (byte (run es) MSAC)) (aperture b) ≡ true → bit (byte (run es) i) j ≡ 0
-  taken-zero es = always Stands fresh-stands step-stands host-stands (λ s x st. record { fits = st .fits; clear = st .clear }) es .clear
+  taken-zero es = always Stands fresh-stands step-stands host-stands ended-stands (λ s x st. record { fits = st .fits; clear = st .clear }) es .clear
 
 -- ---- the code is never 10
 
@@ -111,7 +120,7 @@ size-by-bits : (x : ℕ) → bit x 2 * 2 + bit x 1 ≡ sizeOf x
 size-by-bits x = omega arith
 
 -- bits 2:1 of MSAC after a write of w
-code-bits : (c : Closed) (code w x : ℕ) (d : Bool) → eqb (sizeOf w) 2 ≡ d → store true c code w MSAC 2 (bit x 2) * 2 + store true c code w MSAC 1 (bit x 1) ≡ pick d (sizeOf x) (sizeOf w)
+code-bits : (c : Flags) (code w x : ℕ) (d : Bool) → eqb (sizeOf w) 2 ≡ d → store true c code w MSAC 2 (bit x 2) * 2 + store true c code w MSAC 1 (bit x 1) ≡ pick d (sizeOf x) (sizeOf w)
 unfolding store takes rows rowAt classOf
 code-bits c code w x true e = rw e (size-by-bits x)
 code-bits c code w x false e = rw e (size-by-bits w)
@@ -129,18 +138,21 @@ unfolding sizeAfter storedBit
 legal-after s o l v st true e =
     let w = byteFor o v MSAC in
     let x = byte s MSAC in
-    rw (size-of-bits (storedBit s o l v MSAC) (stored<2 s o l v MSAC), e, code-bits (s .closed) (sizeOf x) w x (eqb (sizeOf w) 2) refl) (not-10 w x (eqb (sizeOf w) 2) refl (st .code))
+    rw (size-of-bits (storedBit s o l v MSAC) (stored<2 s o l v MSAC), e, code-bits (s .flags) (sizeOf x) w x (eqb (sizeOf w) 2) refl) (not-10 w x (eqb (sizeOf w) 2) refl (st .code))
 legal-after s o l v st false e = rw (size-kept s o l v (st .fits) e) (st .code)
 
-legal-step : (s : State) (o l v : ℕ) → Legal s → Legal (stepOf s o l v)
+legal-step : (s : State) (o l v : ℕ) → Legal s → Legal (writtenOf s o l v)
 legal-step s o l v st = record { fits = msac< s o l v; code = rw (size-after s o l v) (legal-after s o l v st (enabled o l MSAC) refl) }
 
 legal-host : (s : State) (o m v : ℕ) → notHost o m ≡ false → Legal s → Legal (hostStepOf s o m v)
 legal-host s o m v n st = record { fits = rw (msac-hosted s o m v (st .fits) n) (st .fits); code = rw (msac-hosted s o m v (st .fits) n) (st .code) }
+
+legal-ended : (s : State) → Legal s → Legal (endedOf s)
+legal-ended s st = record { fits = rw (msac-ended s (st .fits)) (st .fits); code = rw (msac-ended s (st .fits)) (st .code) }
 
 legal-fresh : Legal freshOf
 unfolding freshOf defaults rows rowAt
 legal-fresh = record { fits = omega arith; code = refl }
 
 pub never-10 : (es : List Event) → eqb (sizeOf (byte (run es) MSAC)) 2 ≡ false
-never-10 es = always Legal legal-fresh legal-step legal-host (λ s x st. record { fits = st .fits; code = st .code }) es .code
+never-10 es = always Legal legal-fresh legal-step legal-host legal-ended (λ s x st. record { fits = st .fits; code = st .code }) es .code

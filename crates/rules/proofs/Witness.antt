@@ -1,28 +1,34 @@
 -- No clause of demand 3 is empty: for each a run, computed, in which its case happens.
 use mathlib.Core.Path.{_≡_, refl}
 use mathlib.Core.List.{List, [], _∷_}
+use mathlib.Core.Bool.{true, false}
 use Rattle.bits.specs.Bits.{numberOf}
 use Rattle.answer.specs.Refusals.{ok, no, OFFSET, NOT-HOST, OTHER-FUNCTION}
-use Rattle.map.specs.Registers.{VID2, DID2, GMADR, SVID2, CAPPOINT, HSRW, AFCTL, SWSCI}
+use Rattle.map.specs.Registers.{VID2, DID2, PCICMD2, GMADR, SVID2, CAPPOINT, HSRW, AFCTL, SWSCI}
 use Rattle.map.specs.Class.{svid2, sid2, swsci15}
 use Rattle.map.specs.Map.{rows, rowAt, classOf, defaults}
-use Rattle.rules.specs.Access.{enabled, byteFor}
-use Rattle.rules.specs.Guest.{bitsTaken, takenBy, takes, store, clear, reset, starts, storedBit, sizeAfter, bitAfter, ofField, touches, closedAfter, stepOf, writeOf}
-use Rattle.rules.specs.Read.{pointer, readBit, readValue, readOf}
+use Rattle.rules.specs.Access.{byte, enabled, byteFor}
+use Rattle.rules.specs.Guest.{bitsTaken, takenBy, takes, store, clear, starts, storedBit, sizeAfter, bitAfter, ofField, touches, flagsAfter, writtenOf, stepOf, writeOf}
+use Rattle.rules.specs.Reset.{reset, endedBit, endedOf, endOf}
+use Rattle.rules.specs.Read.{pointer, shownBit, readBit, readValue, readOf}
 use Rattle.rules.specs.Host.{notHost, hostBit, hostStepOf, hostOf}
 use Rattle.rules.specs.Fresh.{freshOf}
 use Rattle.rules.specs.Ports.{notOurs, otherFunction, latchOf, portLanes, portWriteOf}
 use Rattle.rules.specs.Claims.{base, apertureBase}
-use Rattle.rules.specs.Events.{Event, write, port-write, host-update, platform-reset, happens, run}
-use Rattle.rules.specs.History.{none, at, guestWrite, firstFrom, firstWrite, gives, lastUpdate}
+use Rattle.rules.specs.Events.{Event, write, port-write, host-update, end-signal, platform-reset, happens, run}
+use Rattle.rules.specs.History.{none, at, acceptedWrite, seen, firstFrom, firstWrite, gives, lastUpdate}
 use Rattle.rules.specs.Past.{nothing, given, ran, anyReset, since, lastGiven}
 use Rattle.rules.specs.Demand3.{codeOf}
 
 -- ---- the runs
 
--- SVID2 in halves, with a function reset in between, and a second write; SID2 is never written
+-- SVID2 in halves, with a function reset in between, and a second write; SID2 is written only while busy, and a driver's command bits return to default
 abbrev halves : List Event
-halves = write SVID2 1 0x34 ∷ write AFCTL 1 1 ∷ write SVID2 2 0x1200 ∷ write SVID2 3 0xFFFF ∷ []
+halves = write SVID2 1 0x34 ∷ write PCICMD2 1 7 ∷ write AFCTL 1 1 ∷ write SVID2 12 0x56780000 ∷ end-signal ∷ write SVID2 2 0x1200 ∷ write SVID2 3 0xFFFF ∷ []
+
+-- the function reset is started, through the port pair, and not ended: writes are dropped, the host's updates are not
+abbrev started : List Event
+started = write PCICMD2 1 7 ∷ port-write 0xCF8 4 0x800010A8 ∷ port-write 0xCFC 1 1 ∷ write PCICMD2 1 0 ∷ host-update DID2 0xFF 0x11 ∷ []
 
 -- a platform reset opens both fields again; a write through the port pair closes them, and a later one finds them closed
 abbrev ports : List Event
@@ -55,6 +61,7 @@ pub record Witnessed : Type 0 where
   pub halves-first : firstWrite svid2 halves ≡ at SVID2 1 0x34
   pub halves-read : readOf (run halves) SVID2 3 ≡ ok 0x0034
   pub halves-none : firstWrite sid2 halves ≡ none
+  pub halves-returned : readOf (run halves) PCICMD2 3 ≡ ok 0
   pub ports-first : firstWrite sid2 ports ≡ at SVID2 15 0xABCD1234
   pub ports-read : readOf (run ports) SVID2 15 ≡ ok 0xABCD1234
   pub default-first : firstWrite swsci15 default ≡ at SWSCI 2 0
@@ -74,13 +81,20 @@ pub record Witnessed : Type 0 where
   pub offset-refused : happens (write 0x2D 15 1) freshOf .reply ≡ no OFFSET
   pub update-refused : happens (host-update VID2 0x01 0) freshOf .reply ≡ no NOT-HOST
   pub port-refused : happens (port-write 0xCFC 4 1) (run (port-write 0xCF8 4 0x80001800 ∷ [])) .reply ≡ no OTHER-FUNCTION
+  -- 6. busy
+  pub started-busy : seen started .busy ≡ true
+  pub started-read : readOf (run started) VID2 5 ≡ ok 0x00FF00FF
+  pub started-held : byte (run started) PCICMD2 ≡ 7
+  pub started-given : byte (run started) DID2 ≡ 0x11
+  pub ended-busy : seen halves .busy ≡ false
 
 pub witnessed : Witnessed
-unfolding numberOf rows rowAt classOf defaults enabled byteFor bitsTaken takenBy takes store clear reset starts storedBit sizeAfter bitAfter ofField touches closedAfter stepOf writeOf pointer readBit readValue readOf notHost hostBit hostStepOf hostOf freshOf notOurs otherFunction latchOf portLanes portWriteOf base happens ran anyReset since guestWrite firstFrom gives lastGiven
+unfolding numberOf rows rowAt classOf defaults enabled byteFor bitsTaken takenBy takes store clear starts storedBit sizeAfter bitAfter ofField touches flagsAfter writtenOf stepOf writeOf reset endedBit endedOf endOf pointer shownBit readBit readValue readOf notHost hostBit hostStepOf hostOf freshOf notOurs otherFunction latchOf portLanes portWriteOf base happens ran anyReset since acceptedWrite firstFrom gives lastGiven
 witnessed = record {
   halves-first = refl;
   halves-read = refl;
   halves-none = refl;
+  halves-returned = refl;
   ports-first = refl;
   ports-read = refl;
   default-first = refl;
@@ -93,6 +107,11 @@ witnessed = record {
   listed-read = refl;
   enlarged-code = refl;
   enlarged-base = refl;
+  started-busy = refl;
+  started-read = refl;
+  started-held = refl;
+  started-given = refl;
+  ended-busy = refl;
   offset-refused = refl;
   update-refused = refl;
   port-refused = refl;

@@ -10,6 +10,14 @@ use Rattle.rules.specs.declared.State.{State}
 abbrev pub byte : State → ℕ → ℕ
 byte s i = getD (s .bytes) i 0
 
+-- a flag is up: any number but 0
+abbrev pub up : ℕ → Bool
+up flag = not (flag is 0)
+
+-- a function reset is under way
+abbrev pub busy : State → Bool
+busy s = up (s .flags .busy)
+
 -- bit i of the lanes is for byte offset + i
 unfoldable pub enabled : ℕ → ℕ → ℕ → Bool
 enabled o l i = o ≤? i and i <? o + 4 and bit l (i - o) is 1

@@ -2,10 +2,10 @@
 use mathlib.Core.Bool.{Bool}
 use Prim.Native.Nat.{ℕ, _+_, _/_, _%_, _^_}
 use Rattle.bits.specs.Bits.{bit, field, numberOf}
-use Rattle.bits.specs.Choice.{if_then_else_, _is_, _<?_}
+use Rattle.bits.specs.Choice.{if_then_else_, _or_, _is_, _<?_}
 use Rattle.map.specs.Registers.{PCICMD2, GTTMMADR, GMADR, IOBAR, MSAC, PMCS}
 use Rattle.rules.specs.declared.State.{State}
-use Rattle.rules.specs.Access.{byte}
+use Rattle.rules.specs.Access.{byte, busy}
 use Rattle.rules.specs.Guest.{sizeOf, exponentOf}
 
 -- ---- what a claim gives
@@ -56,9 +56,9 @@ holds b e a = a / 2 ^ e is b / 2 ^ e
 abbrev pub at : Window → ℕ → ℕ → Claimed
 at w e a = claimed w (a % 2 ^ e)
 
--- power state 11 claims nothing
+-- while busy nothing is claimed, and in power state 11
 abbrev pub off : State → Bool
-off s = field (byte s PMCS) 1 0 is 3
+off s = busy s or field (byte s PMCS) 1 0 is 3
 
 -- size code 10 claims no aperture
 unfoldable pub apertureClaim : State → ℕ → ℕ → Claimed

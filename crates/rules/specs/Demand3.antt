@@ -1,21 +1,23 @@
--- Demand 3, clause by clause: what holds after every run of guest accesses, port accesses, host updates and platform resets from the fresh state.
+-- Demand 3, clause by clause: what holds after every run of guest accesses, port accesses, host updates, end signals and platform resets from the fresh state.
+-- The clauses speak of held bits; what a guest reads while a function reset is under way is clause 6.
 use mathlib.Core.Path.{_≡_}
 use mathlib.Core.List.{List}
-use mathlib.Core.Bool.{false}
+use mathlib.Core.Bool.{true, false}
 use Prim.Native.Nat.{ℕ, _+_, _*_, _/_, _%_, _^_, _<_}
-use Rattle.bits.specs.Bits.{bit, numberOf}
+use Rattle.bits.specs.Bits.{bit, numberOf, byteOf}
 use Rattle.bits.specs.Choice.{if_then_else_, _is_}
 use Rattle.answer.specs.Refusals.{ok}
-use Rattle.map.specs.Registers.{SVID2, SID2, CAPPOINT, CAPL, MSAC, SWSCI}
+use Rattle.map.specs.Registers.{SVID2, SID2, CAPPOINT, CAPL, MSAC, AFCTL, SWSCI}
 use Rattle.map.specs.Class.{Field, svid2, sid2, swsci15, once, stores}
 use Rattle.map.specs.Map.{classOf}
 use Rattle.rules.specs.declared.State.{State}
-use Rattle.rules.specs.Access.{byte}
-use Rattle.rules.specs.Guest.{sizeOf, exponentOf}
-use Rattle.rules.specs.Read.{readOf}
-use Rattle.rules.specs.Claims.{apertureBase}
+use Rattle.rules.specs.Access.{byte, busy, badOffset}
+use Rattle.rules.specs.Guest.{sizeOf, exponentOf, starts, writeOf}
+use Rattle.rules.specs.Read.{shownBit, readOf}
+use Rattle.rules.specs.Plain.{readReply, shownValue}
+use Rattle.rules.specs.Claims.{apertureBase, unclaimed, memoryClaimOf, ioClaimOf}
 use Rattle.rules.specs.Events.{Event, read, port-read, happens, run}
-use Rattle.rules.specs.History.{firstWrite, overDefault, lastUpdate, orDefault}
+use Rattle.rules.specs.History.{seen, firstWrite, overDefault, lastUpdate, orDefault}
 
 -- 1. Since the last platform reset, or the start, each write-once field holds its default until the first accepted guest write to this
 -- function that enables one of its bytes, and from then on that write's enabled bytes over the default, whatever follows.
@@ -27,9 +29,9 @@ Write-once = (es : List Event) (f : Field) (i j : ℕ) → i < 256 → j < 8 →
 abbrev pub Read-only : Type 0
 Read-only = (es : List Event) (i j : ℕ) → i < 256 → j < 8 → stores (classOf i j) ≡ false → bit (byte (run es) i) j ≡ orDefault (lastUpdate i j es) i j
 
--- 3. The computed list pointer follows its own rule: it reads 90 or D0 by CAPL's bit.
+-- 3. The computed list pointer follows its own rule: it is 90 or D0 by CAPL's bit.
 abbrev pub Computed : Type 0
-Computed = (es : List Event) → readOf (run es) CAPPOINT 1 ≡ ok (if bit (byte (run es) CAPL) 0 is 1 then 0xD0 else 0x90)
+Computed = (es : List Event) → byteOf (shownBit (run es) CAPPOINT) ≡ (if bit (byte (run es) CAPL) 0 is 1 then 0xD0 else 0x90)
 
 -- 4. The aperture's size code is never 10b, and its base is always a multiple of the size that the code names.
 abbrev pub codeOf : List Event → ℕ
@@ -45,19 +47,41 @@ Refused = (e : Event) (s : State) → (happens e s .reply .number ≡ 0 → ⊥)
 abbrev pub Reads : Type 0
 Reads = (s : State) (a b : ℕ) → (happens (read a b) s .state ≡ s) × (happens (port-read a b) s .state ≡ s)
 
+-- 6. The state is busy exactly from an accepted guest write that starts a function reset, and was not dropped, until an end signal or a platform reset.
+-- While busy, in every state, an accepted read gives FF in the enabled lanes, a guest write changes nothing, and nothing is claimed.
+abbrev pub Busy : Type 0
+Busy = (es : List Event) → busy (run es) ≡ seen es .busy
+
+abbrev pub Ones : Type 0
+Ones = (s : State) (o l : ℕ) → busy s ≡ true → readOf s o l ≡ readReply o l (shownValue (λ (i j : ℕ). 1) o l)
+
+abbrev pub Dropped : Type 0
+Dropped = (s : State) (o l v : ℕ) → busy s ≡ true → writeOf s o l v .state ≡ s
+
+-- A write that starts a function reset changes no held bit.
+abbrev pub Started : Type 0
+Started = (s : State) (o l v i j : ℕ) → badOffset o ≡ false → starts o l v ≡ true → i < 256 → j < 8 → bit (byte (writeOf s o l v .state) i) j ≡ bit (byte s i) j
+
+abbrev pub Unclaimed : Type 0
+Unclaimed = (s : State) (a : ℕ) → busy s ≡ true → (memoryClaimOf s a ≡ unclaimed) × (ioClaimOf s a ≡ unclaimed)
+
 -- ---- for a reader's eye: what a guest reads back after any run
 
--- the 16 bits of a write-once register, by the first write to its field
+-- the 16 bits of a write-once register, by the first write to its field; they are read where no function reset is under way
 abbrev pub lockedWord : Field → ℕ → List Event → ℕ
 lockedWord f at es = numberOf 16 (λ (n : ℕ). overDefault (firstWrite f es) (at + n / 8) (n % 8))
 
 -- at 2C: SVID2 in the low word, SID2 in the high
 abbrev pub Read-back-2C : Type 0
-Read-back-2C = (es : List Event) → readOf (run es) SVID2 3 ≡ ok (lockedWord svid2 SVID2 es)
+Read-back-2C = (es : List Event) → busy (run es) ≡ false → readOf (run es) SVID2 3 ≡ ok (lockedWord svid2 SVID2 es)
 
 abbrev pub Read-back-2E : Type 0
-Read-back-2E = (es : List Event) → readOf (run es) SVID2 12 ≡ ok (lockedWord sid2 SID2 es * 2 ^ 16)
+Read-back-2E = (es : List Event) → busy (run es) ≡ false → readOf (run es) SVID2 12 ≡ ok (lockedWord sid2 SID2 es * 2 ^ 16)
+
+-- what a driver polls for: AFCTL reads FF while busy, and 0 otherwise
+abbrev pub Poll : Type 0
+Poll = (es : List Event) → readOf (run es) AFCTL 1 ≡ ok (if busy (run es) then 0xFF else 0)
 
 -- at E8: bit 15 is the lock, whatever the other bits are
 abbrev pub Read-back-E8 : Type 0
-Read-back-E8 = (es : List Event) → (v : ℕ) × ((readOf (run es) SWSCI 3 ≡ ok v) × (bit v 15 ≡ overDefault (firstWrite swsci15 es) (SWSCI + 1) 7))
+Read-back-E8 = (es : List Event) → busy (run es) ≡ false → (v : ℕ) × ((readOf (run es) SWSCI 3 ≡ ok v) × (bit v 15 ≡ overDefault (firstWrite swsci15 es) (SWSCI + 1) 7))

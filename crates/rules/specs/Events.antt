@@ -7,6 +7,7 @@ use Rattle.rules.specs.Access.{Outcome, done}
 use Rattle.rules.specs.Guest.{writeOf}
 use Rattle.rules.specs.Read.{readOf}
 use Rattle.rules.specs.Host.{hostOf}
+use Rattle.rules.specs.Reset.{endOf}
 use Rattle.rules.specs.Fresh.{freshOf}
 use Rattle.rules.specs.Ports.{portReadOf, portWriteOf}
 use Rattle.rules.specs.Past.{ran}
@@ -22,6 +23,8 @@ pub data Event : Type 0 where
   port-write : ℕ → ℕ → ℕ → Event
   -- offset, mask, value
   host-update : ℕ → ℕ → ℕ → Event
+  -- the host's, which ends a function reset
+  end-signal : Event
   platform-reset : Event
 
 -- a read leaves the state
@@ -35,6 +38,7 @@ happens (write o l v) s = writeOf s o l v
 happens (port-read p w) s = looked (portReadOf s p w) s
 happens (port-write p w v) s = portWriteOf s p w v
 happens (host-update o m v) s = hostOf s o m v
+happens end-signal s = done (endOf s)
 happens platform-reset s = done freshOf
 
 -- the state that an event leaves

@@ -1,7 +1,12 @@
 -- The fresh state, which a platform reset returns everything to ('How a bit behaves').
 use Rattle.map.specs.Map.{defaults}
 use Rattle.rules.specs.declared.State.{State}
+use Rattle.rules.specs.declared.Flags.{Flags}
 
--- defaults, fields open, latch 0
+-- fields open, not busy
+abbrev pub freshFlags : Flags
+freshFlags = record { svid2 = 0; sid2 = 0; swsci15 = 0; busy = 0 }
+
+-- defaults, latch 0
 unfoldable pub freshOf : State
-freshOf = record { bytes = defaults; latch = 0; closed = record { svid2 = 0; sid2 = 0; swsci15 = 0 } }
+freshOf = record { bytes = defaults; latch = 0; flags = freshFlags }

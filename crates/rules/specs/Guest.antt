@@ -6,19 +6,19 @@ use Rattle.bits.specs.Choice.{if_then_else_, _and_, _or_, _is_, _≤?_, _<?_, a
 use Rattle.bits.specs.Places.{bytes}
 use Rattle.answer.specs.Refusals.{OFFSET, LANES}
 use Rattle.map.specs.Registers.{MSAC, AFCTL}
-use Rattle.map.specs.Class.{Field, svid2, sid2, swsci15, Class, readOnly, host, guest, guestF, once, sizeCode, aperture, power, computed, resetStart, hasF, apertureBit, sameClass}
-use Rattle.map.specs.Map.{classOf, defaultAt}
+use Rattle.map.specs.Class.{Field, svid2, sid2, swsci15, Class, readOnly, host, guest, guestF, once, sizeCode, aperture, power, computed, resetStart, apertureBit, sameClass}
+use Rattle.map.specs.Map.{classOf}
 use Rattle.rules.specs.declared.State.{State}
-use Rattle.rules.specs.declared.Closed.{Closed}
-use Rattle.rules.specs.Access.{byte, enabled, byteFor, badOffset, badLanes, Outcome, done, refused}
-use Rattle.rules.specs.Plain.{storedOver, returnedBit}
+use Rattle.rules.specs.declared.Flags.{Flags}
+use Rattle.rules.specs.Access.{byte, up, busy, enabled, byteFor, badOffset, badLanes, Outcome, done, refused}
+use Rattle.rules.specs.Plain.{storedOver}
 
 -- ---- the write-once fields
 
-abbrev pub closed : Closed → Field → Bool
-closed c svid2 = not (c .svid2 is 0)
-closed c sid2 = not (c .sid2 is 0)
-closed c swsci15 = not (c .swsci15 is 0)
+abbrev pub closed : Flags → Field → Bool
+closed c svid2 = up (c .svid2)
+closed c sid2 = up (c .sid2)
+closed c swsci15 = up (c .swsci15)
 
 -- a byte of the field
 unfoldable pub ofField : Field → ℕ → Bool
@@ -28,12 +28,25 @@ ofField f i = anyBelow 8 (λ (j : ℕ). sameClass (classOf i j) (once f))
 unfoldable pub touches : ℕ → ℕ → Field → Bool
 touches o l f = anyBelow 4 (λ (k : ℕ). bit l k is 1 and ofField f (o + k))
 
--- the first write that enables any byte of the field closes the whole field
-abbrev pub flagAfter : ℕ → ℕ → Field → ℕ → ℕ
-flagAfter o l f was = if touches o l f then 1 else was
+-- ---- the function reset
 
-unfoldable pub closedAfter : ℕ → ℕ → Closed → Closed
-closedAfter o l c = record { svid2 = flagAfter o l svid2 (c .svid2); sid2 = flagAfter o l sid2 (c .sid2); swsci15 = flagAfter o l swsci15 (c .swsci15) }
+-- writing 1 to bit 0 of AFCTL starts it
+unfoldable pub starts : ℕ → ℕ → ℕ → Bool
+starts o l v = enabled o l AFCTL and bit (byteFor o v AFCTL) 0 is 1
+
+-- ---- the flags
+
+abbrev pub raised : Bool → ℕ → ℕ
+raised b was = if b then 1 else was
+
+-- the first write that enables any byte of a field closes the whole field; a write that starts the function reset makes the state busy
+unfoldable pub flagsAfter : ℕ → ℕ → ℕ → Flags → Flags
+flagsAfter o l v c = record {
+  svid2 = raised (touches o l svid2) (c .svid2);
+  sid2 = raised (touches o l sid2) (c .sid2);
+  swsci15 = raised (touches o l swsci15) (c .swsci15);
+  busy = raised (starts o l v) (c .busy);
+}
 
 -- ---- MSAC's size code, bits 2:1
 
@@ -57,7 +70,7 @@ takenBy code c = leastExponent ≤? apertureBit c and apertureBit c <? exponentO
 
 -- ---- in an enabled lane, does a bit of this class take the bit written? code: the size code that stands; w: the byte written
 
-unfoldable pub takes : Closed → ℕ → ℕ → Class → Bool
+unfoldable pub takes : Flags → ℕ → ℕ → Class → Bool
 takes c code w readOnly = false
 takes c code w host = false
 takes c code w guest = true
@@ -72,7 +85,7 @@ takes c code w resetStart = false
 -- ---- bit j of byte i, was x
 
 -- a guest write touches only enabled lanes
-unfoldable pub store : Bool → Closed → ℕ → ℕ → ℕ → ℕ → ℕ → ℕ
+unfoldable pub store : Bool → Flags → ℕ → ℕ → ℕ → ℕ → ℕ → ℕ
 store lane c code w i j x = storedOver lane (takes c code w (classOf i j)) (bit w j) x
 
 -- every write that enables MSAC clears the bits that the code then makes read-only
@@ -80,31 +93,27 @@ unfoldable pub clear : Bool → ℕ → ℕ → ℕ → ℕ → ℕ
 clear true code i j x = if takenBy code (classOf i j) then 0 else x
 clear false code i j x = x
 
--- a function reset returns F bits to default, and the bit that starts it then reads 0
-unfoldable pub reset : Bool → ℕ → ℕ → ℕ → ℕ
-reset true i j x = returnedBit (λ (i j : ℕ). hasF (classOf i j)) defaultAt (λ (i j : ℕ). if sameClass (classOf i j) resetStart then 0 else x) i j
-reset false i j x = x
-
 -- ---- a guest write of v to the dword at o, with lanes l
 
--- writing 1 to bit 0 of AFCTL starts a function reset
-unfoldable pub starts : ℕ → ℕ → ℕ → Bool
-starts o l v = enabled o l AFCTL and bit (byteFor o v AFCTL) 0 is 1
-
 unfoldable pub storedBit : State → ℕ → ℕ → ℕ → ℕ → ℕ → ℕ
-storedBit s o l v i j = store (enabled o l i) (s .closed) (sizeOf (byte s MSAC)) (byteFor o v i) i j (bit (byte s i) j)
+storedBit s o l v i j = store (enabled o l i) (s .flags) (sizeOf (byte s MSAC)) (byteFor o v i) i j (bit (byte s i) j)
 
 -- the size code that then stands
 unfoldable pub sizeAfter : State → ℕ → ℕ → ℕ → ℕ
 sizeAfter s o l v = sizeOf (byteOf (storedBit s o l v MSAC))
 
--- stored, then cleared, then reset
+-- stored, then cleared
 unfoldable pub bitAfter : State → ℕ → ℕ → ℕ → ℕ → ℕ → ℕ
-bitAfter s o l v i j = reset (starts o l v) i j (clear (enabled o l MSAC) (sizeAfter s o l v) i j (storedBit s o l v i j))
+bitAfter s o l v i j = clear (enabled o l MSAC) (sizeAfter s o l v) i j (storedBit s o l v i j)
 
+unfoldable pub writtenOf : State → ℕ → ℕ → ℕ → State
+writtenOf s o l v = record { bytes = bytes (λ (i : ℕ). byteOf (bitAfter s o l v i)); latch = s .latch; flags = flagsAfter o l v (s .flags) }
+
+-- while busy, guest writes are dropped
 unfoldable pub stepOf : State → ℕ → ℕ → ℕ → State
-stepOf s o l v = record { bytes = bytes (λ (i : ℕ). byteOf (bitAfter s o l v i)); latch = s .latch; closed = closedAfter o l (s .closed) }
+stepOf s o l v = if busy s then s else writtenOf s o l v
 
+-- dropped writes answer as accepted ones; refusals come first
 unfoldable pub writeOf : State → ℕ → ℕ → ℕ → Outcome
 writeOf s o l v =
     if badOffset o then refused OFFSET s

@@ -10,9 +10,9 @@ use Rattle.rules.specs.Past as P
 use Rattle.rules.specs.Past.{Given, nothing, orHeld, lastGiven}
 use Rattle.rules.specs.Plain.{updateGives}
 use Rattle.rules.specs.Access.{enabled, byteFor, badOffset, badLanes}
-use Rattle.rules.specs.Guest.{touches}
+use Rattle.rules.specs.Guest.{touches, starts}
 use Rattle.rules.specs.Ports.{DATA, badWidth, atLatch, notOurs, otherFunction, latchOf, dwordOf, portLanes, placed}
-use Rattle.rules.specs.Events.{Event, read, write, port-read, port-write, host-update, platform-reset}
+use Rattle.rules.specs.Events.{Event, read, write, port-read, port-write, host-update, end-signal, platform-reset}
 
 -- ---- the events since the last platform reset, or the start
 
@@ -22,6 +22,7 @@ isReset (write o l v) = false
 isReset (port-read p w) = false
 isReset (port-write p w v) = false
 isReset (host-update o m v) = false
+isReset end-signal = false
 isReset platform-reset = true
 
 abbrev pub anyReset : List Event → Bool
@@ -38,6 +39,7 @@ latchAfter x (write o l v) = x
 latchAfter x (port-read p w) = x
 latchAfter x (port-write p w v) = if atLatch p w then latchOf v else x
 latchAfter x (host-update o m v) = x
+latchAfter x end-signal = x
 latchAfter x platform-reset = 0
 
 -- ---- accepted guest writes to this function, by dword or through the port pair
@@ -48,15 +50,55 @@ pub data GuestWrite : Type 0 where
   at : ℕ → ℕ → ℕ → GuestWrite
 
 -- the guest write that an event comes to, where the latch holds x
-unfoldable pub guestWrite : ℕ → Event → GuestWrite
-guestWrite x (read o l) = none
-guestWrite x (write o l v) = if badOffset o or badLanes l then none else at o l v
-guestWrite x (port-read p w) = none
-guestWrite x (port-write p w v) =
+unfoldable pub acceptedWrite : ℕ → Event → GuestWrite
+acceptedWrite x (read o l) = none
+acceptedWrite x (write o l v) = if badOffset o or badLanes l then none else at o l v
+acceptedWrite x (port-read p w) = none
+acceptedWrite x (port-write p w v) =
     if badWidth w or notOurs x p w or atLatch p w or otherFunction x then none
     else at (dwordOf x) (portLanes (p - DATA) w) (placed v (p - DATA) w)
-guestWrite x (host-update o m v) = none
-guestWrite x platform-reset = none
+acceptedWrite x (host-update o m v) = none
+acceptedWrite x end-signal = none
+acceptedWrite x platform-reset = none
+
+-- ---- what the events so far tell: the latch, and whether a function reset is under way
+
+pub record Seen : Type 0 where
+  pub latch : ℕ
+  pub busy : Bool
+
+abbrev pub atStart : Seen
+atStart = record { latch = 0; busy = false }
+
+-- while busy a write is dropped, and counts as none
+abbrev pub unlessBusy : Bool → GuestWrite → GuestWrite
+unlessBusy b none = none
+unlessBusy b (at o l v) = if b then none else at o l v
+
+abbrev pub guestWrite : Seen → Event → GuestWrite
+guestWrite x e = unlessBusy (x .busy) (acceptedWrite (x .latch) e)
+
+abbrev pub starting : GuestWrite → Bool
+starting none = false
+starting (at o l v) = starts o l v
+
+-- from a write that starts a function reset until the end signal, or a platform reset
+abbrev pub busyAfter : Seen → Event → Bool
+busyAfter x (read o l) = x .busy
+busyAfter x (write o l v) = starting (guestWrite x (write o l v)) or x .busy
+busyAfter x (port-read p w) = x .busy
+busyAfter x (port-write p w v) = starting (guestWrite x (port-write p w v)) or x .busy
+busyAfter x (host-update o m v) = x .busy
+busyAfter x end-signal = false
+busyAfter x platform-reset = false
+
+abbrev pub seenNext : Event → Seen → Seen
+seenNext e x = record { latch = latchAfter (x .latch) e; busy = busyAfter x e }
+
+abbrev pub seen : List Event → Seen
+seen es = P.ran seenNext atStart es
+
+-- ---- the first write to a field
 
 -- it enables a byte of the field
 abbrev pub touching : Field → GuestWrite → Bool
@@ -64,12 +106,12 @@ touching f none = false
 touching f (at o l v) = touches o l f
 
 -- the first of them that does
-unfoldable pub firstFrom : ℕ → Field → List Event → GuestWrite
+unfoldable pub firstFrom : Seen → Field → List Event → GuestWrite
 firstFrom x f [] = none
-firstFrom x f (e ∷ es) = if touching f (guestWrite x e) then guestWrite x e else firstFrom (latchAfter x e) f es
+firstFrom x f (e ∷ es) = if touching f (guestWrite x e) then guestWrite x e else firstFrom (seenNext e x) f es
 
 abbrev pub firstWrite : Field → List Event → GuestWrite
-firstWrite f es = firstFrom 0 f (since es)
+firstWrite f es = firstFrom atStart f (since es)
 
 -- bit j of byte i: that write's enabled bytes over the default; the default where there is none
 abbrev pub overDefault : GuestWrite → ℕ → ℕ → ℕ
@@ -85,6 +127,7 @@ gives i j (write o l v) = nothing
 gives i j (port-read p w) = nothing
 gives i j (port-write p w v) = nothing
 gives i j (host-update o m v) = updateGives (λ (i j : ℕ). isHost (classOf i j)) o m v i j
+gives i j end-signal = nothing
 gives i j platform-reset = nothing
 
 -- the last of them that does

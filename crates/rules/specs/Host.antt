@@ -20,7 +20,7 @@ unfoldable pub hostBit : State → ℕ → ℕ → ℕ → ℕ → ℕ → ℕ
 hostBit s o m v i j = updatedBit (held (s .bytes)) o m v i j
 
 unfoldable pub hostStepOf : State → ℕ → ℕ → ℕ → State
-hostStepOf s o m v = record { bytes = bytes (λ (i : ℕ). byteOf (hostBit s o m v i)); latch = s .latch; closed = s .closed }
+hostStepOf s o m v = record { bytes = bytes (λ (i : ℕ). byteOf (hostBit s o m v i)); latch = s .latch; flags = s .flags }
 
 unfoldable pub hostOf : State → ℕ → ℕ → ℕ → Outcome
 hostOf s o m v =

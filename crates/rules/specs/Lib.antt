@@ -3,6 +3,7 @@ pub mod Plain
 pub mod Past
 pub mod Guest
 pub mod Read
+pub mod Reset
 pub mod Host
 pub mod Fresh
 pub mod Ports

@@ -9,16 +9,20 @@ use Rattle.map.specs.Registers.{CAPL}
 use Rattle.map.specs.Class.{computed, sameClass}
 use Rattle.map.specs.Map.{classOf}
 use Rattle.rules.specs.declared.State.{State}
-use Rattle.rules.specs.Access.{byte}
+use Rattle.rules.specs.Access.{byte, busy}
 use Rattle.rules.specs.Plain.{shownValue, readReply}
 
 -- CAPPOINT reads 90 when CAPL bit 0 is 0, D0 when it is 1
 unfoldable pub pointer : State → ℕ
 pointer s = if bit (byte s CAPL) 0 is 1 then 0xD0 else 0x90
 
--- bit j of byte i, as a guest reads it: what the state holds, but for the computed pointer
+-- bit j of byte i: what the state holds, but for the computed pointer
+unfoldable pub shownBit : State → ℕ → ℕ → ℕ
+shownBit s i j = if sameClass (classOf i j) computed then bit (pointer s) j else bit (byte s i) j
+
+-- as a guest reads it: a one while busy
 unfoldable pub readBit : State → ℕ → ℕ → ℕ
-readBit s i j = if sameClass (classOf i j) computed then bit (pointer s) j else bit (byte s i) j
+readBit s i j = if busy s then 1 else shownBit s i j
 
 -- each enabled byte in its place
 unfoldable pub readValue : State → ℕ → ℕ → ℕ

@@ -1,19 +1,20 @@
 // The twin's state, and an enum for each kind of answer. What each access does is in specs/; this crate has no code.
 
-// The write-once fields: 0 open, any other number closed.
+// The write-once fields: 0 open, any other number closed. Busy: 0 where no function reset is under way, any other number where one is.
 #[repr(C)]
-pub struct Closed {
+pub struct Flags {
     pub svid2: u8,
     pub sid2: u8,
     pub swsci15: u8,
+    pub busy: u8,
 }
 
-// The 256 configuration bytes, the port latch, and which write-once fields are closed. Every pattern of bytes is a state.
+// The 256 configuration bytes, the port latch, and the flags. Every pattern of 264 bytes is a state.
 #[repr(C)]
 pub struct State {
     pub bytes: [u8; 256],
     pub latch: u32,
-    pub closed: Closed,
+    pub flags: Flags,
 }
 
 pub enum ReadAnswer {

@@ -16,7 +16,7 @@ use Rattle.answer.specs.Refusals.{Reply}
 use Rattle.rules.specs.Access.{enabled, byteFor, badOffset, badLanes}
 use Rattle.rules.specs.Plain.{Bits, under, held, outside, writtenBit, updatedBit}
 use Rattle.lines.specs.declared.Command.{Command}
-use Rattle.lines.specs.declared.Command.the-variants.{Write, Read, Host, Reset, Bad}
+use Rattle.lines.specs.declared.Command.the-variants.{Write, Read, Host, Reset, End, Bad}
 use Rattle.lines.specs.Line.{commandOf}
 use Rattle.lines.proofs.Long.{begin-alike}
 use Rattle.plain.specs.Bytes.{returnedOf}
@@ -66,6 +66,7 @@ module _ (t : Tables) (d : Good (t .defaults)) where
     say-is (Read o l) = rw (read-is m (g .fits) o l)
     say-is (Host o k v) = rw (update-is m (g .fits) (g .long) (t .hosts) o k v)
     say-is Reset = refl
+    say-is End = refl
     say-is Bad = refl
 
     next-is : (k : Command) → boxNext (boxed-with t m) k ≡ boxed-with t (nextOf t m k)
@@ -74,6 +75,7 @@ module _ (t : Tables) (d : Good (t .defaults)) where
     next-is (Read o l) = refl
     next-is (Host o k v) = rw (update-is m (g .fits) (g .long) (t .hosts) o k v)
     next-is Reset = refl
+    next-is End = refl
     next-is Bad = refl
 
     next-good : (k : Command) → Good (nextOf t m k)
@@ -82,6 +84,7 @@ module _ (t : Tables) (d : Good (t .defaults)) where
     next-good (Read o l) = g
     next-good (Host o k v) = two-refusals (ltb 255 o) (outside (under (t .hosts)) o k) _ _ _ m (made (updatedBit (held m) o k v)) g (chosen-good (λ (i j : ℕ). both (eqb i o) (eqb (bit k j) 1)) (λ (i : ℕ). v) byte)
     next-good Reset = d
+    next-good End = g
     next-good Bad = g
 
     reset-good : Good (functionResetOf (t .resets) (t .defaults) m)

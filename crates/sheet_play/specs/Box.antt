@@ -4,7 +4,7 @@ use Prim.Native.Nat.{ℕ}
 use Rattle.bits.specs.Choice.{if_then_else_}
 use Rattle.answer.specs.Refusals.{LINE}
 use Rattle.lines.specs.declared.Command.{Command}
-use Rattle.lines.specs.declared.Command.the-variants.{Write, Read, Host, Reset, Bad}
+use Rattle.lines.specs.declared.Command.the-variants.{Write, Read, Host, Reset, End, Bad}
 use Rattle.lines.specs.Line.{commandOf}
 use Rattle.texts.specs.Text.{okText, noText}
 use Rattle.play.specs.Player.{replyText, valueTextOf}
@@ -32,6 +32,7 @@ boxNext b (Write o l v) = with b (writeBytes (b .guests) (b .bytes) o l v .bytes
 boxNext b (Read o l) = b
 boxNext b (Host o k v) = with b (updateBytes (b .hosts) (b .bytes) o k v .bytes)
 boxNext b Reset = with b (b .defaults)
+boxNext b End = b
 boxNext b Bad = b
 
 unfoldable pub boxSay : Box → Command → List ℕ
@@ -39,6 +40,7 @@ boxSay b (Write o l v) = replyText (writeBytes (b .guests) (b .bytes) o l v .rep
 boxSay b (Read o l) = valueTextOf (readBytes (b .bytes) o l)
 boxSay b (Host o k v) = replyText (updateBytes (b .hosts) (b .bytes) o k v .reply)
 boxSay b Reset = okText
+boxSay b End = noText LINE
 boxSay b Bad = noText LINE
 
 abbrev pub lineBox : Box → List ℕ → Box

@@ -1,4 +1,4 @@
--- A session on a sheet's device: the player's lines ('The session player'), and `Z` for the function reset.
+-- A session on a sheet's device: the player's lines ('The session player') but for the end signal's `E`, and `Z` for the function reset, which there is a host call.
 use mathlib.Core.List.{List}
 use mathlib.Core.Bool.{Bool}
 use Prim.Native.Nat.{ℕ}
@@ -7,7 +7,7 @@ use Rattle.bits.specs.Choice.{if_then_else_, _and_, _is_}
 use Rattle.answer.specs.Refusals.{LINE}
 use Rattle.lines.specs.Ascii.{letter}
 use Rattle.lines.specs.declared.Command.{Command}
-use Rattle.lines.specs.declared.Command.the-variants.{Write, Read, Host, Reset, Bad}
+use Rattle.lines.specs.declared.Command.the-variants.{Write, Read, Host, Reset, End, Bad}
 use Rattle.lines.specs.Line.{at, commandOf}
 use Rattle.texts.specs.Text.{okText, noText}
 use Rattle.play.specs.Player.{replyText, valueTextOf}
@@ -27,6 +27,7 @@ module _ (t : Tables) where
   nextOf m (Read o l) = m
   nextOf m (Host o k v) = hostOf (t .hosts) m o k v .bytes
   nextOf m Reset = t .defaults
+  nextOf m End = m
   nextOf m Bad = m
 
   -- what it says
@@ -35,6 +36,7 @@ module _ (t : Tables) where
   sayOf m (Read o l) = valueTextOf (readOf m o l)
   sayOf m (Host o k v) = replyText (hostOf (t .hosts) m o k v .reply)
   sayOf m Reset = okText
+  sayOf m End = noText LINE
   sayOf m Bad = noText LINE
 
   abbrev pub lineNext : List ℕ → List ℕ → List ℕ

@@ -1,4 +1,4 @@
-// A session on a sheet's device, over 256 bytes that are lent: the player's lines, and `Z` for the function reset.
+// A session on a sheet's device, over 256 bytes that are lent: the player's lines but for `E`, and `Z` for the function reset.
 ghost use mathlib.Core.Path.{_≡_};
 ghost use mathlib.Core.List.{[], _++_};
 ghost use Prim.Native.Nat.{_+_, _*_, _≤_};
@@ -20,7 +20,7 @@ fn is_z(l: &[u8]) -> bool
     false
 }
 
-// What a command of the player's lines says and does.
+// What a command of the player's lines says and does; a sheet's device has no end signal.
 fn perform(
     defaults: &[u8; 256],
     guests: &[u8; 256],
@@ -40,6 +40,7 @@ fn perform(
             *m = *defaults;
             Said::Done
         }
+        Command::End => Said::No(answer::LINE),
         Command::Bad => Said::No(answer::LINE),
     }
 }

@@ -71,6 +71,10 @@ fn line(s: State, k: Command) -> Lined
             said: Said::Done,
             state: twin::platform_reset(s),
         },
+        Command::End => Lined {
+            said: Said::Done,
+            state: twin::end_signal(s),
+        },
         Command::Bad => Lined {
             said: Said::No(answer::LINE),
             state: s,

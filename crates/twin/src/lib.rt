@@ -1,11 +1,11 @@
-// The twin's entries over a state by value: guest read and write, host update, platform reset.
+// The twin's entries over a state by value: guest read and write, host update, end signal, platform reset.
 ghost use mathlib.Core.Path.{_≡_};
 ghost use Rattle.rules.specs.Guest.{writeOf};
 ghost use Rattle.rules.specs.Read.{readOf, imageOf};
 ghost use Rattle.rules.specs.Host.{hostOf};
+ghost use Rattle.rules.specs.Reset.{endOf};
 ghost use Rattle.rules.specs.Fresh.{freshOf};
 ghost use Rattle.rules.specs.Answers.{readSays, wrote, updated};
-use rules::Closed;
 use rules::ReadAnswer;
 use rules::State;
 use rules::Updated;
@@ -16,7 +16,7 @@ pub fn read(s: State, offset: u32, lanes: u32) -> ReadAnswer
     ensures { λ r. ⌜ readSays r ≡ readOf s offset lanes ⌝ }
 {
     let t = s;
-    reads::read(&t.bytes, offset, lanes)
+    reads::read(&t.bytes, t.flags.busy, offset, lanes)
 }
 
 // The 256 bytes as a guest reads them: what a capability walk goes over.
@@ -24,20 +24,20 @@ pub fn image(s: State) -> [u8; 256]
     ensures { λ r. ⌜ r ≡ imageOf s ⌝ }
 {
     let t = s;
-    reads::image(&t.bytes)
+    reads::image(&t.bytes, t.flags.busy)
 }
 
-// A guest write of the enabled bytes of `value` to the dword at `offset`; the function reset that it may start is performed within it.
+// A guest write of the enabled bytes of `value` to the dword at `offset`; it may start a function reset, and while one is under way it is dropped.
 pub fn write(s: State, offset: u32, lanes: u32, value: u32) -> Written
     ensures { λ r. ⌜ wrote r ≡ writeOf s offset lanes value ⌝ }
 {
     let guest = map::all_guests();
     let mut t = s;
-    let c = t.closed;
+    let c = t.flags;
     let w = writes::write(&mut t.bytes, &guest, c, offset, lanes, value);
     let answer = w.answer;
-    let after = w.closed;
-    t.closed = after;
+    let after = w.flags;
+    t.flags = after;
     Written { answer, state: t }
 }
 
@@ -51,20 +51,27 @@ pub fn host_update(s: State, offset: u32, mask: u8, value: u8) -> Updated
     Updated { answer, state: t }
 }
 
+// The host's end signal: the function reset that is under way ends.
+pub fn end_signal(s: State) -> State
+    ensures { λ r. ⌜ r ≡ endOf s ⌝ }
+{
+    let mut t = s;
+    let c = t.flags;
+    let after = resets::end(&mut t.bytes, c);
+    t.flags = after;
+    t
+}
+
 // The state from which everything starts.
 pub fn fresh() -> State
     ensures { λ r. ⌜ r ≡ freshOf ⌝ }
 {
     let bytes = map::all_defaults();
-    let closed = Closed {
-        svid2: 0,
-        sid2: 0,
-        swsci15: 0,
-    };
+    let flags = resets::fresh_flags();
     State {
         bytes,
         latch: 0,
-        closed,
+        flags,
     }
 }
 

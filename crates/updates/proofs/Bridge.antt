@@ -66,7 +66,7 @@ map-has i j h k = rw (host-bit i j h k) (mark-is (isHost (classOf i j)))
 module _ (s : State) (n : length (s .bytes) ≡ 256) (b : (i : ℕ) → byte s i < 2 ^ 8) where
   -- the state that lent bytes make, with latch and flags as they were
   abbrev pub whole : Lent → Outcome
-  whole r = record { reply = r .reply; state = record { bytes = r .bytes; latch = s .latch; closed = s .closed } }
+  whole r = record { reply = r .reply; state = record { bytes = r .bytes; latch = s .latch; flags = s .flags } }
 
   pub update-is : (o mask v : ℕ) → whole (updateBytes hosts (s .bytes) o mask v) ≡ hostOf s o mask v
   unfolding hostOf hostStepOf hostBit notHost

@@ -6,23 +6,22 @@ use lib.ListN.{getD, set}
 use Rattle.bits.specs.Bits.{blendK}
 use Rattle.bits.specs.Choice.{if_then_else_, _is_}
 use Rattle.answer.specs.Refusals.{Reply, ok, no, OFFSET, LANES}
-use Rattle.map.specs.Registers.{GMADR, MSAC, AFCTL}
-use Rattle.map.specs.Map.{resets, defaults}
-use Rattle.rules.specs.declared.Closed.{Closed}
-use Rattle.rules.specs.Access.{enabled, badOffset, badLanes}
-use Rattle.rules.specs.Guest.{sizeOf, starts, closedAfter}
+use Rattle.map.specs.Registers.{GMADR, MSAC}
+use Rattle.rules.specs.declared.Flags.{Flags}
+use Rattle.rules.specs.Access.{up, enabled, badOffset, badLanes}
+use Rattle.rules.specs.Guest.{sizeOf, flagsAfter}
 use Rattle.rules.specs.Answers.{writeSays}
-use Rattle.plain.specs.Bytes.{storedOf, returnedOf}
+use Rattle.plain.specs.Bytes.{storedOf}
 use Rattle.lanes.specs.Lane.{takenMask, reachOf}
 use Rattle.writes.specs.declared.Wrote.{Wrote}
 
 -- ---- the store
 
 -- the guest bits of byte i that take the byte written
-abbrev pub reachAt : List ℕ → Closed → List ℕ → ℕ → ℕ → ℕ
+abbrev pub reachAt : List ℕ → Flags → List ℕ → ℕ → ℕ → ℕ
 reachAt guest c m i w = reachOf c (sizeOf (getD m MSAC 0)) i (getD guest i 0) w
 
-unfoldable pub storedBytes : List ℕ → Closed → List ℕ → ℕ → ℕ → ℕ → List ℕ
+unfoldable pub storedBytes : List ℕ → Flags → List ℕ → ℕ → ℕ → ℕ → List ℕ
 storedBytes guest c m o l v =
     storedOf m o l v
     (reachAt guest c m o (v % 256))
@@ -30,33 +29,23 @@ storedBytes guest c m o l v =
     (reachAt guest c m (o + 2) (v / 65536 % 256))
     (reachAt guest c m (o + 3) (v / 16777216 % 256))
 
--- ---- MSAC's clearing, and the function reset
+-- ---- MSAC's clearing
 
 unfoldable pub clearedBytes : List ℕ → List ℕ
 clearedBytes m = set m (GMADR + 3) (blendK 8 (takenMask (sizeOf (getD m MSAC 0))) (getD m (GMADR + 3) 0) 0)
-
-abbrev pub returned : List ℕ → List ℕ
-returned m = returnedOf resets defaults m
-
-unfoldable pub resetBytes : List ℕ → List ℕ
-resetBytes m = set (returned m) AFCTL (blendK 8 1 (getD (returned m) AFCTL 0) 0)
 
 unfoldable pub clearIf : Bool → List ℕ → List ℕ
 clearIf true m = clearedBytes m
 clearIf false m = m
 
-unfoldable pub resetIf : Bool → List ℕ → List ℕ
-resetIf true m = resetBytes m
-resetIf false m = m
+unfoldable pub stepBytes : List ℕ → Flags → List ℕ → ℕ → ℕ → ℕ → List ℕ
+stepBytes guest c m o l v = clearIf (enabled o l MSAC) (storedBytes guest c m o l v)
 
-unfoldable pub stepBytes : List ℕ → Closed → List ℕ → ℕ → ℕ → ℕ → List ℕ
-stepBytes guest c m o l v = resetIf (starts o l v) (clearIf (enabled o l MSAC) (storedBytes guest c m o l v))
+-- ---- the flags
 
--- ---- the write-once fields
-
--- a flag after a write at o, for a field in the dword at; hit: its lanes
-unfoldable pub shutOf : ℕ → ℕ → ℕ → ℕ → ℕ
-shutOf was o at hit = if o is at then (if hit is 0 then was else 1) else was
+-- a flag after a write at o, where one at `at` raises it unless hit is 0
+unfoldable pub raisedOf : ℕ → ℕ → ℕ → ℕ → ℕ
+raisedOf was o at hit = if o is at then (if hit is 0 then was else 1) else was
 
 -- ---- the entry
 
@@ -64,16 +53,17 @@ shutOf was o at hit = if o is at then (if hit is 0 then was else 1) else was
 pub record Lent : Type 0 where
   pub reply : Reply
   pub bytes : List ℕ
-  pub closed : Closed
+  pub flags : Flags
 
-abbrev pub lent : Reply → List ℕ → Closed → Lent
-lent r m c = record { reply = r; bytes = m; closed = c }
+abbrev pub lent : Reply → List ℕ → Flags → Lent
+lent r m c = record { reply = r; bytes = m; flags = c }
 
 abbrev pub wrote : Wrote → List ℕ → Lent
-wrote r m = lent (writeSays (r .answer)) m (r .closed)
+wrote r m = lent (writeSays (r .answer)) m (r .flags)
 
-unfoldable pub writeLanes : List ℕ → Closed → List ℕ → ℕ → ℕ → ℕ → Lent
+unfoldable pub writeLanes : List ℕ → Flags → List ℕ → ℕ → ℕ → ℕ → Lent
 writeLanes guest c m o l v =
     if badOffset o then lent (no OFFSET) m c
     else if badLanes l then lent (no LANES) m c
-    else lent (ok 0) (stepBytes guest c m o l v) (closedAfter o l c)
+    else if up (c .busy) then lent (ok 0) m c
+    else lent (ok 0) (stepBytes guest c m o l v) (flagsAfter o l v c)

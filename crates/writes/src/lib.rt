@@ -1,9 +1,9 @@
 // A guest write, over 256 bytes that are lent: a byte lane at a time, under the guest masks that are lent beside them.
 ghost use mathlib.Core.Path.{_≡_};
 ghost use Prim.Native.Nat.{_+_, _%_, _<_};
-ghost use Rattle.rules.specs.Guest.{closedAfter};
-ghost use Rattle.writes.specs.Bytes.{storedBytes, clearedBytes, resetBytes, stepBytes, shutOf, writeLanes, wrote};
-use rules::Closed;
+ghost use Rattle.rules.specs.Guest.{flagsAfter};
+ghost use Rattle.writes.specs.Bytes.{storedBytes, clearedBytes, stepBytes, raisedOf, writeLanes, wrote};
+use rules::Flags;
 use rules::WriteAnswer;
 
 // The dword that MSAC stands in.
@@ -11,12 +11,12 @@ const MSAC_DWORD: usize = map::MSAC / 4 * 4;
 
 pub struct Wrote {
     pub answer: WriteAnswer,
-    pub closed: Closed,
+    pub flags: Flags,
 }
 
 // ---- the store
 
-fn store(m: &mut [u8; 256], guest: &[u8; 256], c: Closed, o: usize, lanes: u32, value: u32)
+fn store(m: &mut [u8; 256], guest: &[u8; 256], c: Flags, o: usize, lanes: u32, value: u32)
     requires { ⌜ o + 3 < 256 ⌝ }
     ensures { λ _. ⌜ now (m .exit) ≡ storedBytes (now (guest .entry)) c (now (m .entry)) o lanes value ⌝ }
 {
@@ -28,7 +28,7 @@ fn store(m: &mut [u8; 256], guest: &[u8; 256], c: Closed, o: usize, lanes: u32, 
     plain::store(m, o, lanes, value, k0, k1, k2, k3);
 }
 
-// ---- what a write to MSAC and to AFCTL does besides
+// ---- what a write to MSAC does besides
 
 // The bits of GMADR that the size code takes are cleared.
 fn clear(m: &mut [u8; 256])
@@ -38,17 +38,7 @@ fn clear(m: &mut [u8; 256])
     m[lanes::APERTURE] = bits::blend(lanes::taken(code), m[lanes::APERTURE], 0);
 }
 
-// The function reset: F bits return to default, and the bit that starts it reads 0.
-fn reset(m: &mut [u8; 256])
-    ensures { λ _. ⌜ now (m .exit) ≡ resetBytes (now (m .entry)) ⌝ }
-{
-    let masks = map::all_resets();
-    let defaults = map::all_defaults();
-    plain::reset(m, &masks, &defaults);
-    m[map::AFCTL] = bits::blend(0x01, m[map::AFCTL], 0);
-}
-
-fn step(m: &mut [u8; 256], guest: &[u8; 256], c: Closed, o: usize, lanes: u32, value: u32)
+fn step(m: &mut [u8; 256], guest: &[u8; 256], c: Flags, o: usize, lanes: u32, value: u32)
     requires { ⌜ (o + 3 < 256) × (o % 4 ≡ 0) ⌝ }
     ensures { λ _. ⌜ now (m .exit) ≡ stepBytes (now (guest .entry)) c (now (m .entry)) o lanes value ⌝ }
 {
@@ -57,22 +47,14 @@ fn step(m: &mut [u8; 256], guest: &[u8; 256], c: Closed, o: usize, lanes: u32, v
         if lanes / 4 % 2 == 1 {
             clear(m);
         }
-        return;
-    }
-    if o == map::AFCTL {
-        if lanes % 2 == 1 {
-            if value % 2 == 1 {
-                reset(m);
-            }
-        }
     }
 }
 
-// ---- the write-once fields
+// ---- the flags
 
-// The flag of a field in the dword at `at`, after a write to the dword at `o`; `hit` are the lanes of the field's bytes.
-fn shut(was: u8, o: usize, at: usize, hit: u32) -> u8
-    ensures { λ r. ⌜ r ≡ shutOf was o at hit ⌝ }
+// A flag that a write to the dword at `at` raises, after a write to the dword at `o`, unless `hit` is 0.
+fn raise(was: u8, o: usize, at: usize, hit: u32) -> u8
+    ensures { λ r. ⌜ r ≡ raisedOf was o at hit ⌝ }
 {
     if o == at {
         if hit == 0 {
@@ -83,24 +65,26 @@ fn shut(was: u8, o: usize, at: usize, hit: u32) -> u8
     was
 }
 
-fn closes(c: Closed, o: usize, lanes: u32) -> Closed
+// A write-once field is closed by the lanes of its bytes; a function reset is started by bit 0 of AFCTL.
+fn raises(c: Flags, o: usize, lanes: u32, value: u32) -> Flags
     requires { ⌜ (o + 3 < 256) × (o % 4 ≡ 0) × (lanes < 16) ⌝ }
-    ensures { λ r. ⌜ r ≡ closedAfter o lanes c ⌝ }
+    ensures { λ r. ⌜ r ≡ flagsAfter o lanes value c ⌝ }
 {
-    Closed {
-        svid2: shut(c.svid2, o, map::SVID2, lanes % 4),
-        sid2: shut(c.sid2, o, map::SVID2, lanes / 4),
-        swsci15: shut(c.swsci15, o, map::SWSCI, lanes / 2 % 2),
+    Flags {
+        svid2: raise(c.svid2, o, map::SVID2, lanes % 4),
+        sid2: raise(c.sid2, o, map::SVID2, lanes / 4),
+        swsci15: raise(c.swsci15, o, map::SWSCI, lanes / 2 % 2),
+        busy: raise(c.busy, o, map::AFCTL, lanes % 2 * (value % 2)),
     }
 }
 
 // ---- the entry
 
-// A guest write of the enabled bytes of `value` to the dword at `offset`.
+// A guest write of the enabled bytes of `value` to the dword at `offset`; while a function reset is under way it is dropped.
 pub fn write(
     m: &mut [u8; 256],
     guest: &[u8; 256],
-    c: Closed,
+    c: Flags,
     offset: u32,
     lanes: u32,
     value: u32,
@@ -110,26 +94,32 @@ pub fn write(
     if 255 < offset {
         return Wrote {
             answer: WriteAnswer::Offset,
-            closed: c,
+            flags: c,
         };
     }
     if offset % 4 != 0 {
         return Wrote {
             answer: WriteAnswer::Offset,
-            closed: c,
+            flags: c,
         };
     }
     if 15 < lanes {
         return Wrote {
             answer: WriteAnswer::Lanes,
-            closed: c,
+            flags: c,
+        };
+    }
+    if c.busy != 0 {
+        return Wrote {
+            answer: WriteAnswer::Done,
+            flags: c,
         };
     }
     let o = offset as usize;
     step(m, guest, c, o, lanes, value);
-    let after = closes(c, o, lanes);
+    let after = raises(c, o, lanes, value);
     Wrote {
         answer: WriteAnswer::Done,
-        closed: after,
+        flags: after,
     }
 }

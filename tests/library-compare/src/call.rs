@@ -27,13 +27,6 @@ pub enum Call {
     Walk(Vec<u8>, u8),
 }
 
-impl Call {
-    /// Whether the function is lent the record only to look at, or not at all.
-    pub fn only_looks(&self) -> bool {
-        matches!(self, Call::Read(..) | Call::Probe(..) | Call::Walk(..))
-    }
-}
-
 /// The archive's answer. A function that answers a number alone, or nothing,
 /// is taken as one whose value is 0.
 pub fn archive(lent: &mut Lent, call: &mut Call) -> u64 {
@@ -96,6 +89,10 @@ fn door(twin: &mut Twin, op: u32, a: u32, b: u32, c: u32) -> Result<u64, Refusal
         7 => claim(twin.claim_port(port(a)?)),
         8 => range(probe::probe(a, b)),
         9 => ended(twin.walk(byte(a)?)),
+        10 => {
+            twin.end_signal();
+            0
+        }
         _ => return Err(Refusal::Line),
     };
     Ok(answer)

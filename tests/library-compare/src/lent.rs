@@ -54,6 +54,7 @@ impl Lent {
             bytes: bytes.try_into().expect("256 bytes"),
             latch: u32::from_le_bytes(rest[..4].try_into().expect("4 bytes")),
             closed: rest[4..7].try_into().expect("3 bytes"),
+            busy: rest[7],
         }
     }
 }

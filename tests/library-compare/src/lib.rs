@@ -3,9 +3,8 @@
 //! record compared after each.
 //!
 //! Everything that the library can be seen to do is compared: the packed
-//! answer, the 256 bytes, the latch, the three flags, the record's padding
-//! where nothing may change, the bytes just before and behind the record, and
-//! the bytes that a walk goes over.
+//! answer, the 264 bytes of the record, the bytes just before and behind it,
+//! and the bytes that a walk goes over.
 
 pub mod call;
 pub mod lent;
@@ -16,12 +15,12 @@ pub mod tally;
 use std::fmt;
 
 use second::rng::Rng;
-use second::twin::Twin;
+use second::twin::{Record, Twin};
 
 use call::{answer, Call};
 use lent::Lent;
 use make::{call, foreign};
-use tally::Tally;
+use tally::{Phase, Tally};
 
 /// What carries out a call on a lent record: the archive, or one with a fault.
 pub type Library<'a> = &'a dyn Fn(&mut Lent, &mut Call) -> u64;
@@ -69,18 +68,19 @@ impl<'a> Pair<'a> {
     /// Carries out one call on both, and compares.
     pub fn step(&mut self, call: &Call, tally: &mut Tally) -> Result<(), String> {
         let before = self.lent;
+        let was_busy = self.twin.is_busy();
         let mut made = call.clone();
         let theirs = (self.library)(&mut self.lent, &mut made);
         let ours = answer(&mut self.twin, call);
-        tally.count(call, ours);
-        self.compare(&before, theirs, ours, call)?;
+        tally.count(call, ours, Phase::of(was_busy, self.twin.is_busy()));
+        self.compare(&before, theirs, ours)?;
         if made != *call {
             return Err("the bytes walked over were changed".to_string());
         }
         Ok(())
     }
 
-    fn compare(&self, before: &Lent, theirs: u64, ours: u64, call: &Call) -> Result<(), String> {
+    fn compare(&self, before: &Lent, theirs: u64, ours: u64) -> Result<(), String> {
         if theirs != ours {
             return Err(format!(
                 "the library answers {theirs:016X}, the second program {ours:016X}"
@@ -99,16 +99,21 @@ impl<'a> Pair<'a> {
         }
         if is != wanted {
             return Err(format!(
-                "latch and flags are {:08X} {:02X?}, and {:08X} {:02X?} in the second program",
-                is.latch, is.closed, wanted.latch, wanted.closed
+                "latch, flags and busy byte are {}, and {} in the second program",
+                behind_the_bytes(&is),
+                behind_the_bytes(&wanted)
             ));
-        }
-        let refused = ours >> 48 != 0;
-        if (refused || call.only_looks()) && self.lent != *before {
-            return Err("the record's padding was changed".to_string());
         }
         Ok(())
     }
+}
+
+/// A record's latch, flags and busy byte.
+fn behind_the_bytes(record: &Record) -> String {
+    format!(
+        "{:08X} {:02X?} {:02X}",
+        record.latch, record.closed, record.busy
+    )
 }
 
 /// Steps from the fresh state in one session.

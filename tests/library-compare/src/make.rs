@@ -36,12 +36,19 @@ pub fn foreign(rng: &mut Rng) -> Lent {
     if rng.one_in(2) {
         record[260..263].fill_with(|| rng.byte());
     }
+    record[263] = match rng.below(6) {
+        0 => 1,
+        1 => rng.byte(),
+        _ => 0,
+    };
     Lent::new(record)
 }
 
 /// A latch that names the function, often with bits that a write would not store.
 fn latch(rng: &mut Rng) -> u32 {
-    let offset = rng.dword() & 0xFC;
+    let any = rng.dword() & 0xFC;
+    let telling = rng.pick(TELLING);
+    let offset = rng.pick(&[any, telling]);
     let ignored = rng.pick(&[0, 0, 0x7F00_0003, 0x5500_0001]);
     match rng.below(12) {
         0 => rng.dword(),
@@ -143,10 +150,10 @@ fn probed(rng: &mut Rng) -> (u32, u32) {
     (low, high)
 }
 
-/// Bytes to walk over: the function's, any, or a list that seldom ends, and now
+/// Bytes to walk over: the record's, any, or a list that seldom ends, and now
 /// and then of another length.
 fn walked(rng: &mut Rng, twin: &Twin) -> Vec<u8> {
-    let mut bytes = twin.bytes().to_vec();
+    let mut bytes = twin.record().bytes.to_vec();
     match rng.below(4) {
         0 => bytes.fill_with(|| rng.byte()),
         1 => bytes.fill_with(|| 0x40 + rng.below(0xC0) as u8),
@@ -185,7 +192,7 @@ fn wanted(rng: &mut Rng) -> u8 {
 
 fn through_the_door(rng: &mut Rng, twin: &Twin) -> Call {
     let spare = rng.dword();
-    match rng.below(40) {
+    match rng.below(42) {
         0 if rng.one_in(5) => Call::Do(0, spare, rng.dword(), rng.dword()),
         0..=6 => Call::Do(1, offset(rng), lanes(rng), rng.telling_dword()),
         7..=9 => Call::Do(2, offset(rng), lanes(rng), spare),
@@ -214,7 +221,8 @@ fn through_the_door(rng: &mut Rng, twin: &Twin) -> Call {
             let id = wanted(rng).into();
             Call::Do(9, mostly_below(rng, 8, id), rng.dword(), spare)
         }
-        38 => Call::Do(10 + rng.below(300) as u32, spare, rng.dword(), rng.dword()),
+        38..=39 => Call::Do(10, spare, rng.dword(), rng.dword()),
+        40 => Call::Do(11 + rng.below(300) as u32, spare, rng.dword(), rng.dword()),
         _ => Call::Do(rng.telling_dword(), spare, rng.dword(), rng.dword()),
     }
 }

@@ -1,23 +1,35 @@
 //! Calls in order, not made: every dword with every lanes, every bit by a host
-//! update, every port near the pair, every length of a walk, and so on.
+//! update, every port near the pair, every length of a walk, and so on, over
+//! records that are idle and busy.
 
 use crate::call::Call;
 use crate::lent::{Lent, SIZE};
 use crate::tally::Tally;
 use crate::{Difference, Library, Pair};
 
-/// Records to sweep over: fresh, all zeros, all ones, and two mixed ones.
-fn records(library: Library) -> Vec<Lent> {
+/// Records to sweep over: fresh, all zeros, all ones, and two mixed ones, each
+/// idle and busy.
+fn records(library: Library) -> Vec<[Lent; 2]> {
     let mut fresh = Lent::new([0x77; SIZE]);
     library(&mut fresh, &mut Call::PlatformReset);
     let mixed = |odd: u8| Lent::new(std::array::from_fn(|at| (at as u8).wrapping_mul(odd) ^ odd));
-    vec![
+    let made = [
         fresh,
         Lent::new([0; SIZE]),
         Lent::new([0xFF; SIZE]),
         mixed(0x35),
         mixed(0xA7),
-    ]
+    ];
+    let with = |record: &Lent, busy: u8| {
+        let mut record = *record;
+        *record.byte(263) = busy;
+        record
+    };
+    let busy = [1, 0x80, 0xFF, 7, 2];
+    made.iter()
+        .zip(busy)
+        .map(|(record, busy)| [with(record, 0), with(record, busy)])
+        .collect()
 }
 
 /// Each call on a record as it was.
@@ -107,6 +119,7 @@ fn ports() -> impl Iterator<Item = (u32, Call)> {
     let latches = [
         0x8000_1000,
         0x8000_10FC,
+        0x8000_10A8,
         0x8000_1100,
         0x8000_0000,
         0x8001_1000,
@@ -117,13 +130,40 @@ fn ports() -> impl Iterator<Item = (u32, Call)> {
         (0xCF0..0xD08).flat_map(move |port| {
             (0..=5).flat_map(move |width| {
                 [
-                    Call::Do(4, port, width, 0xA5C3_965A),
+                    Call::Do(4, port, width, 0xA5C3_965B),
                     Call::Do(5, port, width, 0),
                 ]
                 .map(|call| (latch, call))
             })
         })
     })
+}
+
+/// A record that claims what its windows hold.
+fn claiming(record: &Lent) -> Lent {
+    let mut record = *record;
+    *record.byte(0x04) |= 0x03;
+    *record.byte(0xD4) &= !0x03;
+    record
+}
+
+/// Each window's base, the addresses that differ from it in one bit, and the
+/// topmost address.
+fn claims(record: &Lent) -> impl Iterator<Item = Call> {
+    let bytes = record.fields().bytes;
+    let base = move |at: usize| {
+        let bytes = bytes[at..at + 8].try_into().expect("8 bytes");
+        u64::from_le_bytes(bytes)
+    };
+    let near = |base: u64, bits: u32| {
+        (0..bits)
+            .map(move |place| base ^ 1 << place)
+            .chain([base, u64::MAX])
+    };
+    let memory = [0x10, 0x18].into_iter().flat_map(move |at| {
+        near(base(at), 64).map(|address| Call::Do(6, address as u32, (address >> 32) as u32, 0))
+    });
+    memory.chain(near(base(0x20), 16).map(|port| Call::Do(7, port as u32 & 0xFFFF, 0, 0)))
 }
 
 fn probes() -> impl Iterator<Item = Call> {
@@ -170,7 +210,7 @@ fn walks() -> impl Iterator<Item = Call> {
 /// Every sweep.
 pub fn all(library: Library, tally: &mut Tally) -> Result<(), Difference> {
     let records = records(library);
-    for record in &records {
+    for record in records.iter().flatten() {
         sweep(library, "writes", record, writes(), tally)?;
         sweep(library, "reads", record, reads(), tally)?;
         sweep(library, "host updates", record, updates(), tally)?;
@@ -182,9 +222,13 @@ pub fn all(library: Library, tally: &mut Tally) -> Result<(), Difference> {
             }
             sweep(library, "ports", &record, std::iter::once(call), tally)?;
         }
+        let record = claiming(record);
+        sweep(library, "claims", &record, claims(&record), tally)?;
     }
-    let mixed = &records[3];
-    sweep(library, "the door", mixed, doors(), tally)?;
-    sweep(library, "probes", mixed, probes(), tally)?;
-    sweep(library, "walks", mixed, walks(), tally)
+    let [idle, busy] = &records[3];
+    for record in [idle, busy] {
+        sweep(library, "the door", record, doors(), tally)?;
+    }
+    sweep(library, "probes", idle, probes(), tally)?;
+    sweep(library, "walks", idle, walks(), tally)
 }

@@ -36,6 +36,65 @@ fn written(call: &Call, answer: u64) -> Option<(u32, u32, u32)> {
     }
 }
 
+const BUSY: usize = 263;
+
+fn is_busy(lent: &mut Lent) -> bool {
+    *lent.byte(BUSY) != 0
+}
+
+/// The archive, with what a fault does to the record where a call starts a
+/// function reset.
+fn at_a_start(fault: impl Fn(&mut Lent)) -> impl Fn(&mut Lent, &mut Call) -> u64 {
+    move |lent, call| {
+        let was_busy = is_busy(lent);
+        let answer = archive(lent, call);
+        if !was_busy && is_busy(lent) {
+            fault(lent);
+        }
+        answer
+    }
+}
+
+/// The archive, with what a fault does to the record where an end signal ends
+/// one; it is given the record before too.
+fn at_an_end(fault: impl Fn(&mut Lent, &mut Lent)) -> impl Fn(&mut Lent, &mut Call) -> u64 {
+    move |lent, call| {
+        let mut before = *lent;
+        let answer = archive(lent, call);
+        if matches!(call, Call::Do(10, ..)) && is_busy(&mut before) {
+            fault(&mut before, lent);
+        }
+        answer
+    }
+}
+
+/// The archive, but such calls are carried out as if no function reset ran;
+/// the busy byte stays.
+fn deaf_to_busy(such: impl Fn(&Call) -> bool) -> impl Fn(&mut Lent, &mut Call) -> u64 {
+    move |lent, call| {
+        let busy = *lent.byte(BUSY);
+        if busy == 0 || !such(call) {
+            return archive(lent, call);
+        }
+        *lent.byte(BUSY) = 0;
+        let answer = archive(lent, call);
+        *lent.byte(BUSY) = busy;
+        answer
+    }
+}
+
+/// The archive, but such calls change nothing while a function reset runs.
+fn dropped_while_busy(such: impl Fn(&Call) -> bool) -> impl Fn(&mut Lent, &mut Call) -> u64 {
+    move |lent, call| {
+        let mut before = *lent;
+        let answer = archive(lent, call);
+        if such(call) && is_busy(&mut before) {
+            *lent = before;
+        }
+        answer
+    }
+}
+
 #[test]
 fn no_fault_is_not_found() {
     assert!(!sessions_find(&archive));
@@ -57,15 +116,226 @@ fn a_guest_mask_with_one_bit_more() {
 }
 
 #[test]
-fn a_function_reset_that_reopens() {
-    let library = |lent: &mut Lent, call: &mut Call| {
+fn a_start_that_reopens() {
+    found_by_both(&at_a_start(|lent| *lent.byte(260) = 0));
+}
+
+#[test]
+fn a_start_that_returns_f_bits() {
+    found_by_both(&at_a_start(|lent| *lent.byte(0x04) &= !0x07));
+}
+
+#[test]
+fn a_start_that_leaves_another_number_than_1() {
+    found_by_both(&at_a_start(|lent| *lent.byte(BUSY) = 0xFF));
+}
+
+#[test]
+fn a_start_that_sets_the_held_bit() {
+    found_by_both(&at_a_start(|lent| *lent.byte(0xA8) |= 1));
+}
+
+#[test]
+fn a_start_that_clears_the_held_bit() {
+    found_by_both(&at_a_start(|lent| *lent.byte(0xA8) &= !1));
+}
+
+#[test]
+fn a_function_reset_within_the_write() {
+    found_by_both(&|lent, call| {
+        let was_busy = is_busy(lent);
         let answer = archive(lent, call);
-        if matches!(written(call, answer), Some((0xA8, lanes, value)) if lanes & value & 1 == 1) {
-            *lent.byte(260) = 0;
+        if !was_busy && is_busy(lent) {
+            archive(lent, &mut Call::Do(10, 0, 0, 0));
         }
         answer
-    };
-    found_by_both(&library);
+    });
+}
+
+#[test]
+fn an_end_signal_that_reopens() {
+    found_by_both(&at_an_end(|_, lent| *lent.byte(261) = 0));
+}
+
+#[test]
+fn an_end_signal_that_leaves_busy() {
+    found_by_both(&at_an_end(|_, lent| *lent.byte(BUSY) = 1));
+}
+
+#[test]
+fn an_end_signal_that_leaves_f_bits() {
+    found_by_both(&at_an_end(|before, lent| {
+        *lent.byte(0x92) = *before.byte(0x92)
+    }));
+}
+
+#[test]
+fn an_end_signal_that_leaves_the_held_bit() {
+    found_by_both(&at_an_end(|before, lent| {
+        *lent.byte(0xA8) = *before.byte(0xA8)
+    }));
+}
+
+#[test]
+fn an_end_signal_that_returns_more_than_f_bits() {
+    found_by_both(&at_an_end(|_, lent| *lent.byte(0x62) = 0x02));
+}
+
+#[test]
+fn an_end_signal_that_clears_the_latch() {
+    found_by_both(&at_an_end(|_, lent| *lent.byte(256) = 0));
+}
+
+#[test]
+fn an_end_signal_that_resets_where_none_runs() {
+    found_by_both(&|lent, call| {
+        if matches!(call, Call::Do(10, ..)) {
+            *lent.byte(BUSY) = 1;
+        }
+        archive(lent, call)
+    });
+}
+
+#[test]
+fn an_end_signal_that_looks_at_its_arguments() {
+    found_by_both(&|lent, call| match call {
+        Call::Do(10, a, ..) if *a > 0xFF => 9 << 48,
+        _ => archive(lent, call),
+    });
+}
+
+#[test]
+fn a_platform_reset_that_leaves_busy() {
+    found_by_both(&|lent, call| {
+        let busy = *lent.byte(BUSY);
+        let answer = archive(lent, call);
+        if matches!(call, Call::PlatformReset | Call::Do(0, ..)) {
+            *lent.byte(BUSY) = busy;
+        }
+        answer
+    });
+}
+
+#[test]
+fn a_busy_write_that_closes() {
+    found_by_both(&|lent, call| {
+        let was_busy = is_busy(lent);
+        let answer = archive(lent, call);
+        if let Some((0x2C, lanes, _)) = written(call, answer) {
+            if was_busy && lanes & 0x3 != 0 {
+                *lent.byte(260) = 1;
+            }
+        }
+        answer
+    });
+}
+
+#[test]
+fn a_busy_write_that_is_stored() {
+    found_by_both(&deaf_to_busy(|call| matches!(call, Call::Write(..))));
+    found_by_both(&deaf_to_busy(|call| matches!(call, Call::WriteByValue(..))));
+    found_by_both(&deaf_to_busy(|call| matches!(call, Call::Do(1, ..))));
+}
+
+#[test]
+fn a_busy_port_write_that_is_stored() {
+    found_by_both(&deaf_to_busy(|call| matches!(call, Call::Do(4, ..))));
+}
+
+#[test]
+fn a_busy_write_that_makes_a_foreign_busy_byte_1() {
+    found_by_both(&|lent, call| {
+        let answer = archive(lent, call);
+        if written(call, answer).is_some() {
+            let busy = lent.byte(BUSY);
+            *busy = (*busy).min(1);
+        }
+        answer
+    });
+}
+
+#[test]
+fn a_busy_write_that_is_not_refused() {
+    found_by_both(&|lent, call| {
+        let was_busy = is_busy(lent);
+        let answer = archive(lent, call);
+        match call {
+            Call::Write(..) if was_busy => 0,
+            _ => answer,
+        }
+    });
+}
+
+#[test]
+fn a_busy_byte_of_which_one_bit_counts() {
+    found_by_both(&|lent, call| {
+        let busy = *lent.byte(BUSY);
+        if busy & 1 == 1 || !matches!(call, Call::Read(..)) {
+            return archive(lent, call);
+        }
+        *lent.byte(BUSY) = 0;
+        let answer = archive(lent, call);
+        *lent.byte(BUSY) = busy;
+        answer
+    });
+}
+
+#[test]
+fn a_busy_read_that_shows_the_held_bytes() {
+    found_by_both(&deaf_to_busy(|call| matches!(call, Call::Read(..))));
+    found_by_both(&deaf_to_busy(|call| matches!(call, Call::Do(2, ..))));
+}
+
+#[test]
+fn a_busy_port_read_that_shows_the_held_bytes() {
+    found_by_both(&deaf_to_busy(|call| matches!(call, Call::Do(5, ..))));
+}
+
+#[test]
+fn a_busy_read_with_ones_in_lanes_that_are_not_enabled() {
+    found_by_both(&|lent, call| {
+        let was_busy = is_busy(lent);
+        let answer = archive(lent, call);
+        match call {
+            Call::Read(..) if was_busy && !refused(answer) => u32::MAX.into(),
+            _ => answer,
+        }
+    });
+}
+
+#[test]
+fn a_busy_port_read_with_ones_above_the_width() {
+    found_by_both(&|lent, call| {
+        let was_busy = is_busy(lent);
+        let answer = archive(lent, call);
+        match call {
+            Call::Do(5, 0xCFC.., ..) if was_busy && !refused(answer) => u32::MAX.into(),
+            _ => answer,
+        }
+    });
+}
+
+#[test]
+fn a_claim_while_busy() {
+    found_by_both(&deaf_to_busy(|call| matches!(call, Call::Do(6, ..))));
+    found_by_both(&deaf_to_busy(|call| matches!(call, Call::Do(7, ..))));
+}
+
+#[test]
+fn a_walk_over_the_held_bytes_while_busy() {
+    found_by_both(&deaf_to_busy(|call| matches!(call, Call::Do(9, ..))));
+}
+
+#[test]
+fn a_host_update_that_is_dropped_while_busy() {
+    found_by_both(&dropped_while_busy(|call| matches!(call, Call::Do(3, ..))));
+}
+
+#[test]
+fn a_latch_that_is_not_stored_while_busy() {
+    found_by_both(&dropped_while_busy(|call| {
+        matches!(call, Call::Do(4, 0xCF8, ..))
+    }));
 }
 
 #[test]
@@ -93,11 +363,11 @@ fn a_flag_that_a_write_leaves_foreign() {
 }
 
 #[test]
-fn padding_changed_by_a_refusal() {
+fn a_busy_byte_changed_by_a_refusal() {
     found_by_both(&|lent, call| {
         let answer = archive(lent, call);
         if refused(answer) {
-            *lent.byte(263) ^= 1;
+            *lent.byte(BUSY) ^= 1;
         }
         answer
     });

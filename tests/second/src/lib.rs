@@ -4,9 +4,11 @@
 //! lines alone, so that a misreading of the paper shows when its answers are
 //! compared with those of the proved program. It shares no code with it and
 //! keeps its state in another way: one class and one value for each of the
-//! 2,048 bits, a flag for each write-once field, and the latch.
+//! 2,048 bits, a flag for each write-once field, the latch, and whether a
+//! function reset is under way.
 //!
-//! Register sheets are from paper `02-change-requests.md`, W-201, alone.
+//! Register sheets and the time that a function reset takes are from paper
+//! `02-change-requests.md`, W-201 and W-202, alone.
 //!
 //! Binaries:
 //!

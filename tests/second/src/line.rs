@@ -14,7 +14,8 @@ pub enum Mode {
     Player,
     /// The player's lines, and ports, claims, probe and walk.
     Console,
-    /// The player's lines, and the function reset of a sheet's device.
+    /// The player's lines but for the end signal, and the function reset of a
+    /// sheet's device.
     Sheet,
 }
 
@@ -43,6 +44,8 @@ pub enum Command {
     Host { offset: u32, mask: u8, value: u8 },
     /// `P`: a platform reset.
     PlatformReset,
+    /// `E`: the end signal of a function reset.
+    End,
     /// `Z`: the function reset of a sheet's device.
     FunctionReset,
     /// `O pppp w vvvvvvvv`: a port write.
@@ -66,6 +69,7 @@ fn digits(letter: &[u8], mode: Mode) -> Option<&'static [usize]> {
         (b"R", _) => Some(&[2, 1]),
         (b"H", _) => Some(&[2, 2, 2]),
         (b"P", _) => Some(&[]),
+        (b"E", Mode::Player | Mode::Console) => Some(&[]),
         (b"Z", Mode::Sheet) => Some(&[]),
         (b"O", Mode::Console) => Some(&[4, 1, 8]),
         (b"I", Mode::Console) => Some(&[4, 1]),
@@ -140,6 +144,7 @@ fn command(letter: u8, numbers: &[u64]) -> Option<Command> {
             value: value as u8,
         },
         (b'P', &[]) => Command::PlatformReset,
+        (b'E', &[]) => Command::End,
         (b'Z', &[]) => Command::FunctionReset,
         (b'O', &[port, width, value]) => Command::PortWrite {
             port: port as u16,
@@ -280,13 +285,18 @@ fn perform(twin: &mut Twin, command: Command) -> Answer {
             twin.platform_reset();
             Answer::Done
         }
+        Command::End => {
+            twin.end_signal();
+            Answer::Done
+        }
         Command::PortWrite { port, width, value } => twin.port_write(port, width, value).into(),
         Command::PortRead { port, width } => twin.port_read(port, width).into(),
         Command::ClaimMemory { address } => Answer::Claim(twin.claim_memory(address)),
         Command::ClaimPort { port } => Answer::Claim(twin.claim_port(port)),
         Command::Probe { low, high } => probe::probe(low, high).into(),
         Command::Walk { wanted } => twin.walk(wanted).into(),
-        // The twin resets by a write to AFCTL alone, and its modes know no such line.
+        // The twin's function reset is a write to AFCTL and an end signal; its
+        // modes know no such line.
         Command::FunctionReset => Answer::Refused(Refusal::Line),
     }
 }

@@ -140,7 +140,9 @@ fn any_bytes(rng: &mut Rng) -> Vec<u8> {
 
 /// Ends the line in a separator, a comment or a second command.
 fn with_separator(rng: &mut Rng, line: &[u8]) -> Vec<u8> {
-    let end: &[u8] = rng.pick(&[b";", b" #", b";P", b" P", b"\rP", b"\0P", b" \t", b"\x0C"]);
+    let end: &[u8] = rng.pick(&[
+        b";", b" #", b";P", b" P", b"\rP", b"\0P", b" E", b"\rE", b" \t", b"\x0C",
+    ]);
     [line, end].concat()
 }
 

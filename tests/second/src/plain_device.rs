@@ -132,7 +132,7 @@ impl PlainDevice {
                 self.function_reset();
                 Answer::Done
             }
-            // The lines of the console alone, which the mode doesn't know.
+            // The lines of the twin alone, which the mode doesn't know.
             _ => Answer::Refused(Refusal::Line),
         }
     }

@@ -1,9 +1,10 @@
 //! Made sessions: the same text from the same seed, with much going on in it.
 //!
 //! A session is a row of scenes, each of a few steps around one rule of the
-//! paper, with platform resets and spoiled lines strewn in between. The maker
-//! keeps a twin of its own, but only to aim its claims at the bases as they
-//! stand and its host updates at host bits.
+//! paper, with platform resets, end signals and spoiled lines strewn in between.
+//! A scene in which a function reset starts waits until a busy phase of some
+//! lines is over. The maker keeps a twin of its own, but only to know when it is
+//! busy and has open fields, and to aim its claims at the bases as they stand.
 
 use std::collections::VecDeque;
 use std::io::{self, Write};
@@ -16,6 +17,8 @@ use crate::twin::Twin;
 
 /// One line in so many is a platform reset: rare enough that locks matter.
 const LINES_TO_A_PLATFORM_RESET: u64 = 200;
+/// One line in so many is an end signal that no function reset asks for.
+const LINES_TO_AN_END_SIGNAL: u64 = 100;
 /// One line in so many is spoiled.
 const LINES_TO_A_SPOILED: u64 = 12;
 /// Sweeps of host bits start so many bytes further on for each seed, so that
@@ -32,6 +35,12 @@ const KEPT_DWORDS: &[u32] = &[0x2C, 0x3C, 0x60, 0x7C, 0xE0, 0xE4, 0xE8, 0xFC];
 const HOST_BYTES: &[u8] = &[
     0x02, 0x03, 0x06, 0x08, 0x0A, 0x0B, 0x44, 0x45, 0x46, 0x47, 0x48, 0x49, 0x4A, 0x4B, 0x50, 0x51,
     0x54, 0x55, 0x56, 0x57, 0x5C, 0x5D, 0x5E, 0x5F, 0x63,
+];
+/// The dwords in which there are write-once fields.
+const WRITE_ONCE_DWORDS: &[u32] = &[0x2C, 0xE8];
+/// Lines near the end signal's, all of them refused.
+const NEAR_END_SIGNAL: &[&[u8]] = &[
+    b"E ", b" E", b"e", b"EE", b"E E", b"E 0", b"E 00", b"E0", b"E\r", b"E\t", b"E\0", b"D", b"F",
 ];
 /// Lanes that a port access can have, with its first lane and its width.
 const PORT_LANES: &[(u32, u32, u32)] = &[
@@ -80,7 +89,11 @@ impl Session {
     /// The next line, without its LF.
     pub fn next_line(&mut self) -> Vec<u8> {
         let line = self.any_line();
+        let was_busy = self.twin.is_busy();
         answer(&mut self.twin, &line, self.mode);
+        if self.twin.is_busy() && !was_busy {
+            self.busy_phase();
+        }
         line
     }
 
@@ -91,13 +104,20 @@ impl Session {
         if self.rng.one_in(LINES_TO_A_SPOILED) {
             return self.spoiled_line();
         }
+        if self.rng.one_in(LINES_TO_AN_END_SIGNAL) {
+            return end_signal();
+        }
         self.next_step()
     }
 
-    /// A platform reset, now and then with new first writes right behind it.
+    /// A platform reset, now and then with new first writes right behind it,
+    /// or with a function reset before them.
     fn platform_reset(&mut self) -> Vec<u8> {
         if self.rng.one_in(2) {
             self.steps.clear();
+            if self.rng.one_in(2) {
+                self.push_write(0xA8, 1, 1);
+            }
             self.write_once();
         }
         b"P".to_vec()
@@ -105,6 +125,9 @@ impl Session {
 
     /// A spoiled line, or one that only the console knows.
     fn spoiled_line(&mut self) -> Vec<u8> {
+        if self.rng.one_in(20) {
+            return self.rng.pick(NEAR_END_SIGNAL).to_vec();
+        }
         let line = self.stray_line();
         if self.mode == Mode::Player && self.rng.one_in(6) {
             return line;
@@ -130,16 +153,17 @@ impl Session {
     /// A line of any of the console's forms, outside any scene.
     fn stray_line(&mut self) -> Vec<u8> {
         let rng = &mut self.rng;
-        match rng.below(14) {
+        match rng.below(15) {
             0..=2 => write(aligned(rng), rng.below(16) as u32, rng.telling_dword()),
             3..=4 => read(aligned(rng), rng.below(16) as u32),
             5..=6 => host(rng.pick(HOST_BYTES), rng.byte(), rng.byte()),
             7 => b"P".to_vec(),
-            8 => port_write(0x0CF8, 4, latch(rng)),
-            9 => port_read(0x0CFC, 4),
-            10 => claim_memory(rng.qword()),
-            11 => claim_port(rng.dword() as u16),
-            12 => probe(rng.telling_dword(), rng.telling_dword()),
+            8 => end_signal(),
+            9 => port_write(0x0CF8, 4, latch(rng)),
+            10 => port_read(0x0CFC, 4),
+            11 => claim_memory(rng.qword()),
+            12 => claim_port(rng.dword() as u16),
+            13 => probe(rng.telling_dword(), rng.telling_dword()),
             _ => walk(rng.byte()),
         }
     }
@@ -275,7 +299,8 @@ impl Session {
         self.push_write(0x60, lanes, value);
     }
 
-    /// Makes registers differ from their defaults and then writes AFCTL.
+    /// Makes registers differ from their defaults and then writes AFCTL, by
+    /// which a function reset may or may not start; an end signal may follow.
     fn function_reset(&mut self) {
         if self.rng.one_in(3) {
             self.push_write(0x60, 0x4, 0);
@@ -291,6 +316,9 @@ impl Session {
         let any_lanes = self.rng.below(16) as u32;
         let lanes = self.rng.pick(&[0x1, 0x1, 0xF, 0xE, any_lanes]);
         self.push_write(0xA8, lanes, value);
+        if self.rng.one_in(3) {
+            self.push(end_signal());
+        }
         for _ in 0..1 + self.rng.below(6) {
             let offset = self.any_guest_dword();
             self.push_read(offset, 0xF);
@@ -330,12 +358,18 @@ impl Session {
     /// Host updates inside and outside the masks, mask 0 and any offset too.
     fn host_updates(&mut self) {
         for _ in 0..1 + self.rng.below(4) {
-            let offset = self.update_offset();
-            let mask = self.update_mask(offset);
-            let value = self.rng.byte();
-            self.push(host(offset, mask, value));
-            self.push_read(u32::from(offset) & !3, 0xF);
+            let dword = self.push_host();
+            self.push_read(dword, 0xF);
         }
+    }
+
+    /// A host update, and the dword of its byte.
+    fn push_host(&mut self) -> u32 {
+        let offset = self.update_offset();
+        let mask = self.update_mask(offset);
+        let value = self.rng.byte();
+        self.push(host(offset, mask, value));
+        u32::from(offset) & !3
     }
 
     /// A byte with host bits in most cases, or next to one, or any.
@@ -412,6 +446,111 @@ impl Session {
     }
 }
 
+/// Busy phases.
+impl Session {
+    /// Puts a busy phase before what is left of the scene: accesses of every
+    /// kind, the end signal, and a look at what they were aimed at.
+    fn busy_phase(&mut self) {
+        let rest = std::mem::take(&mut self.steps);
+        let dwords = self.busy_accesses();
+        self.push(end_signal());
+        if self.rng.one_in(10) {
+            self.push(end_signal());
+        }
+        for dword in dwords.into_iter().take(3) {
+            self.look_at(dword);
+        }
+        if self.mode == Mode::Console && self.rng.one_in(5) {
+            self.push(port_read(0x0CF8, 4));
+        }
+        self.steps.extend(rest);
+    }
+
+    /// Some lines while busy, none at times, and the dwords that they would
+    /// change if the function weren't busy, or do change.
+    fn busy_accesses(&mut self) -> Vec<u32> {
+        let most = self.rng.pick(&[4, 8, 12]);
+        let length = self.rng.index(most + 1);
+        let mut dwords = Vec::new();
+        while self.steps.len() < length {
+            dwords.extend(self.busy_access());
+        }
+        self.steps.truncate(length);
+        dwords
+    }
+
+    /// An access while busy, and its dword if it is a write or a host update.
+    fn busy_access(&mut self) -> Option<u32> {
+        if self.mode == Mode::Console && self.rng.one_in(2) {
+            self.busy_console_access();
+            return None;
+        }
+        match self.rng.below(8) {
+            0..=3 => Some(self.busy_write()),
+            4 | 5 => Some(self.push_host()),
+            _ => {
+                self.busy_look();
+                None
+            }
+        }
+    }
+
+    /// A write to where it would matter, AFCTL too, and its dword.
+    fn busy_write(&mut self) -> u32 {
+        let once = self.rng.pick(WRITE_ONCE_DWORDS);
+        let (kept, reset) = (self.rng.pick(KEPT_DWORDS), self.rng.pick(RESET_DWORDS));
+        let any = aligned(&mut self.rng);
+        let dword = if self.has_open_field() && self.rng.one_in(2) {
+            once
+        } else {
+            self.rng
+                .pick(&[once, kept, kept, reset, reset, 0x60, 0xA8, 0xA8, any])
+        };
+        let (lanes, value) = (self.lanes(), self.rng.telling_dword());
+        let value = self.rng.pick(&[value, value | 1]);
+        self.push_write(dword, lanes, value);
+        dword
+    }
+
+    /// Whether some write-once field is open.
+    fn has_open_field(&self) -> bool {
+        self.twin.record().closed.contains(&0)
+    }
+
+    /// Reads, of AFCTL often, refused accesses, or a platform reset.
+    fn busy_look(&mut self) {
+        let lanes = self.lanes();
+        match self.rng.below(12) {
+            0..=3 => self.push_read(0xA8, lanes),
+            4..=9 => self.some_reads(),
+            10 => self.unaligned(),
+            _ => self.push(b"P".to_vec()),
+        }
+    }
+
+    fn busy_console_access(&mut self) {
+        match self.rng.below(16) {
+            0..=7 => self.steps.push_back(Step::NearMemoryBase),
+            8 | 9 => self.steps.push_back(Step::NearIoBase),
+            10 | 11 => self.walks(),
+            12 => self.latch_and_data(),
+            13 => self.push(port_read(0x0CF8, 4)),
+            14 => self.ports_around(),
+            _ => self.probes(),
+        }
+    }
+
+    /// A read of the dword; a write-once field may be written to before, which
+    /// shows whether it is still open.
+    fn look_at(&mut self, dword: u32) {
+        if WRITE_ONCE_DWORDS.contains(&dword) && self.rng.one_in(2) {
+            let (lanes, value) = (self.lanes(), self.rng.telling_dword());
+            self.push_write(dword, lanes, value);
+        }
+        self.push_read(dword, 0xF);
+    }
+}
+
 /// Scenes of the console.
 impl Session {
     /// The latch, right or wrong, read back, and data accesses through it.
@@ -453,7 +592,8 @@ impl Session {
         }
     }
 
-    /// Bases, enables, power and size code, and then claims.
+    /// Bases, enables, power and size code, and then claims, now and then with
+    /// a function reset behind them.
     fn claims(&mut self) {
         self.set_up_windows();
         for _ in 0..4 + self.rng.below(10) {
@@ -463,6 +603,9 @@ impl Session {
             } else {
                 Step::NearMemoryBase
             });
+        }
+        if self.rng.one_in(3) {
+            self.push_write(0xA8, 1, 1);
         }
     }
 
@@ -566,7 +709,9 @@ impl Session {
     fn walks(&mut self) {
         for _ in 0..1 + self.rng.below(3) {
             let any = self.rng.byte();
-            let wanted = self.rng.pick(&[0x01, 0x05, 0x13, 0x09, 0x10, 0x00, any]);
+            let wanted = self
+                .rng
+                .pick(&[0x01, 0x05, 0x13, 0x09, 0x10, 0x00, 0xFF, any]);
             self.push(walk(wanted));
         }
     }
@@ -614,6 +759,10 @@ pub(crate) fn read(offset: u32, lanes: u32) -> Vec<u8> {
 
 pub(crate) fn host(offset: u8, mask: u8, value: u8) -> Vec<u8> {
     format!("H {offset:02X} {mask:02X} {value:02X}").into_bytes()
+}
+
+fn end_signal() -> Vec<u8> {
+    b"E".to_vec()
 }
 
 fn port_write(port: u32, width: u32, value: u32) -> Vec<u8> {

@@ -70,16 +70,17 @@ impl SheetSession<'_> {
         }
     }
 
-    /// A spoiled line, or one that only the console knows.
+    /// A spoiled line, or one that only the player or the console knows.
     fn spoiled_line(&mut self) -> Vec<u8> {
         let (offset, lanes) = (self.dword(), self.rng.below(16) as u32);
-        let line = match self.rng.below(8) {
+        let line = match self.rng.below(9) {
             0..=1 => write(offset, lanes, self.rng.telling_dword()),
             2 => read(offset, lanes),
             3 => host(self.byte(), self.rng.byte(), self.rng.byte()),
             4 => b"P".to_vec(),
             5 => b"Z".to_vec(),
             6 => return self.rng.pick(NEAR_FUNCTION_RESET).to_vec(),
+            7 => return b"E".to_vec(),
             _ => return walk(self.rng.byte()),
         };
         spoil(self.rng, &line)

@@ -1,4 +1,5 @@
-//! The twin: a class and a value for each bit, the field flags, the latch.
+//! The twin: a class and a value for each bit, the field flags, the latch, and
+//! whether a function reset is under way.
 
 use crate::access::Access;
 use crate::map::{self, Class, Field, BITS, BYTES};
@@ -134,7 +135,7 @@ enum Target {
     Data { offset: u32, first_lane: u32 },
 }
 
-/// The state as a bench lends it: any bytes, any latch, any three flags.
+/// The state as a bench lends it: any bytes, any latch, any flags.
 #[derive(Clone, Copy, Debug, PartialEq, Eq)]
 pub struct Record {
     /// The value of every bit, eight to a byte.
@@ -143,6 +144,8 @@ pub struct Record {
     pub latch: u32,
     /// The flags of SVID2, SID2 and SWSCI bit 15.
     pub closed: [u8; 3],
+    /// 0 if no function reset is under way, any other number if one is.
+    pub busy: u8,
 }
 
 /// The whole state of the function.
@@ -151,6 +154,9 @@ pub struct Twin {
     values: [bool; BITS],
     closed: Closed,
     latch: u32,
+    /// 0 not busy, any other number busy. A guest's start leaves 1; another
+    /// number is of foreign making.
+    busy: u8,
 }
 
 impl Default for Twin {
@@ -172,6 +178,7 @@ impl Twin {
                 swsci_bit_15,
             },
             latch: record.latch,
+            busy: record.busy,
         }
     }
 
@@ -191,19 +198,26 @@ impl Twin {
             bytes: std::array::from_fn(byte),
             latch: self.latch,
             closed: [svid2, sid2, swsci_bit_15],
+            busy: self.busy,
         }
     }
 }
 
 /// Direct access.
 impl Twin {
-    /// The fresh state: defaults, fields open, latch 0.
+    /// The fresh state: defaults, fields open, latch 0, not busy.
     pub fn fresh() -> Twin {
         Twin {
             values: *map::paper().defaults(),
             closed: Closed::default(),
             latch: 0,
+            busy: 0,
         }
+    }
+
+    /// Whether a function reset is under way.
+    pub fn is_busy(&self) -> bool {
+        self.busy != 0
     }
 
     /// A guest read of a dword's enabled bytes, the others 00.
@@ -216,9 +230,12 @@ impl Twin {
         Ok(value)
     }
 
-    /// A guest write of a dword's enabled bytes.
+    /// A guest write of a dword's enabled bytes; it is dropped while busy.
     pub fn guest_write(&mut self, offset: u32, lanes: u32, value: u32) -> Result<(), Refusal> {
         let access = Access::checked(offset, lanes)?;
+        if self.is_busy() {
+            return Ok(());
+        }
         let written = Written {
             offset: access.offset,
             value,
@@ -229,7 +246,7 @@ impl Twin {
             self.clear_taken_aperture_bits();
         }
         if access.enables(AFCTL) && written.bit(bit_of(AFCTL, 0)) {
-            self.function_reset();
+            self.busy = 1;
         }
         Ok(())
     }
@@ -249,6 +266,16 @@ impl Twin {
         Ok(())
     }
 
+    /// The host's signal that a function reset is over: the F bits then hold
+    /// their defaults and AFCTL 0; all else stays. It does nothing if not busy.
+    pub fn end_signal(&mut self) {
+        if self.is_busy() {
+            self.return_f_bits();
+            self.values[bit_of(AFCTL, 0)] = false;
+            self.busy = 0;
+        }
+    }
+
     /// A platform reset: the fresh state.
     pub fn platform_reset(&mut self) {
         *self = Twin::fresh();
@@ -256,11 +283,20 @@ impl Twin {
 
     /// The function's 256 bytes as a guest reads them.
     pub fn bytes(&self) -> [u8; BYTES] {
-        std::array::from_fn(|at| self.number(at, 1) as u8)
+        std::array::from_fn(|at| {
+            (0..8)
+                .filter(|place| self.reads(bit_of(at, *place)))
+                .fold(0, |byte, place| byte | 1 << place)
+        })
     }
 
-    /// What a guest reads in one bit.
+    /// What a guest reads in one bit: 1 while busy.
     fn reads(&self, bit: usize) -> bool {
+        self.is_busy() || self.shows(bit)
+    }
+
+    /// What a guest reads in one bit when no function reset is under way.
+    fn shows(&self, bit: usize) -> bool {
         match map::paper().class(bit) {
             Class::Computed => self.cappoint() >> (bit % 8) & 1 == 1,
             _ => self.values[bit],
@@ -276,10 +312,10 @@ impl Twin {
         }
     }
 
-    /// The register of so many bytes as a guest reads it.
+    /// The register of so many bytes as it stands, busy or not.
     fn number(&self, at: usize, bytes: usize) -> u64 {
         (0..bytes * 8)
-            .filter(|place| self.reads(bit_of(at, *place)))
+            .filter(|place| self.shows(bit_of(at, *place)))
             .fold(0, |value, place| value | 1 << place)
     }
 
@@ -296,14 +332,13 @@ impl Twin {
     fn after_write(&self, bit: usize, written: Written) -> bool {
         let (old, new) = (self.values[bit], written.bit(bit));
         let stored = match map::paper().class(bit) {
-            Class::ReadOnly | Class::Host | Class::Computed => false,
+            Class::ReadOnly | Class::Host | Class::Computed | Class::StartsReset => false,
             Class::GuestKept | Class::GuestReset => true,
             Class::Aperture27 => !self.size_code().takes_bit_27(),
             Class::Aperture28 => !self.size_code().takes_bit_28(),
             Class::WriteOnce(field) => !self.closed.holds(field),
             Class::SizeCode => written.pair(MSAC, 2) != (true, false),
             Class::PowerState => matches!(written.pair(PMCS, 1), (false, false) | (true, true)),
-            Class::StartsReset => return old && !new,
         };
         if stored {
             new
@@ -331,8 +366,8 @@ impl Twin {
         }
     }
 
-    /// Returns the F bits to their defaults; all else stays.
-    fn function_reset(&mut self) {
+    /// Returns the F bits to their defaults.
+    fn return_f_bits(&mut self) {
         let map = map::paper();
         for bit in (0..BITS).filter(|bit| is_reset(map.class(*bit))) {
             self.values[bit] = map.default(bit);
@@ -446,7 +481,7 @@ fn lanes_of(width: u32, first_lane: u32) -> u32 {
 impl Twin {
     /// Which window claims a memory address.
     pub fn claim_memory(&self, address: u64) -> Claim {
-        if !self.reads(bit_of(PCICMD2, 1)) || self.claims_nothing() {
+        if !self.shows(bit_of(PCICMD2, 1)) || self.claims_nothing() {
             return Claim::None;
         }
         if let Some(inside) = inside(address, self.memory_base(GTTMMADR), 22) {
@@ -460,7 +495,7 @@ impl Twin {
 
     /// Which window claims an I/O port.
     pub fn claim_port(&self, port: u16) -> Claim {
-        if !self.reads(bit_of(PCICMD2, 0)) || self.claims_nothing() {
+        if !self.shows(bit_of(PCICMD2, 0)) || self.claims_nothing() {
             return Claim::None;
         }
         inside(u64::from(port), self.io_base(), 6).map_or(Claim::None, Claim::Io)
@@ -491,9 +526,9 @@ impl Twin {
         without_low_bits(self.number(at, 8), 4)
     }
 
-    /// Power state 11.
+    /// Busy, or power state 11.
     fn claims_nothing(&self) -> bool {
-        self.number(PMCS, 2) % 4 == 3
+        self.is_busy() || self.number(PMCS, 2) % 4 == 3
     }
 }
 

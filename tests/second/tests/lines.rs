@@ -8,12 +8,13 @@ fn say(session: &[u8], mode: Mode) -> String {
     String::from_utf8(answers(session, mode)).unwrap()
 }
 
-const PLAYER_LINES: [&str; 5] = [
+const PLAYER_LINES: [&str; 6] = [
     "W FC F 89ABCDEF",
     "W 00 0 01234567",
     "R FC F",
     "H 02 FF 00",
     "P",
+    "E",
 ];
 const CONSOLE_LINES: [&str; 6] = [
     "O 0CF8 4 80001000",
@@ -77,7 +78,7 @@ fn every_byte_put_in_and_every_byte_left_out() {
 #[test]
 fn every_other_letter() {
     for letter in (0..=255u8).filter(|letter| *letter != b'\n') {
-        let known = b"WRHPOIANSK".contains(&letter);
+        let known = b"WRHPEOIANSK".contains(&letter);
         let accepted = PLAYER_LINES
             .iter()
             .chain(&CONSOLE_LINES)
@@ -99,6 +100,19 @@ fn malformed_lines() {
         "P\r",
         "\tP",
         "P\0",
+        "e",
+        "E ",
+        " E",
+        "EE",
+        "E E",
+        "E 0",
+        "E 00",
+        "E0",
+        "E\r",
+        "E\t",
+        "\0E",
+        "D",
+        "F",
         "W",
         "R",
         "H",
@@ -196,6 +210,9 @@ fn ends_of_input() {
         ("P\n\n", "OK\nNO 9\n"),
         ("\nP", "NO 9\nOK\n"),
         ("P\r\nP", "NO 9\nOK\n"),
+        ("E", "OK\n"),
+        ("E\nE\n", "OK\nOK\n"),
+        ("E\r\nE", "NO 9\nOK\n"),
         ("P\rP", "NO 9\n"),
         ("R 00 F\nR 0", "OK 01528086\nNO 9\n"),
     ] {

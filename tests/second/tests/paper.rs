@@ -98,6 +98,7 @@ fn function_reset_does_not_reopen() {
     let lines = [
         "W 2C 3 00001234",
         "W A8 1 00000001",
+        "E",
         "W 2C 3 0000FFFF",
         "R 2C 3",
     ];

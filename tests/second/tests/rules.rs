@@ -15,6 +15,12 @@ fn after(writes: &[(u32, u32, u32)]) -> Twin {
     twin
 }
 
+/// Performs a function reset: a write to AFCTL and the end signal.
+fn reset(twin: &mut Twin) {
+    twin.guest_write(0xA8, 0x1, 1).unwrap();
+    twin.end_signal();
+}
+
 /// A dword as a guest reads it.
 fn dword(twin: &Twin, offset: u32) -> u32 {
     twin.guest_read(offset, 0xF).unwrap()
@@ -72,6 +78,7 @@ fn what_ones_leave_behind() {
         (0x90, 0x0071D005),
         (0x94, 0xFFFFFFFC),
         (0x98, 0x0000FFFF),
+        (0xA8, 0xFFFFFFFF), // busy
         (0xD4, 0x00000003),
         (0xE0, 0x0000FFFF),
         (0xE4, 0xFFFFFFFF),
@@ -190,9 +197,12 @@ fn swsci_low_byte_does_not_close_bit_15() {
 
 #[test]
 fn only_a_platform_reset_reopens() {
-    let mut twin = after(&[(0x2C, 0xF, 1), (0xE8, 0xF, 0), (0xA8, 0x1, 1)]);
+    let mut twin = after(&[(0x2C, 0xF, 1), (0xE8, 0xF, 0)]);
+    reset(&mut twin);
     twin.guest_write(0x2C, 0xF, 2).unwrap();
+    twin.guest_write(0xE8, 0xF, 0x8000).unwrap();
     assert_eq!(dword(&twin, 0x2C), 1);
+    assert_eq!(dword(&twin, 0xE8), 0);
     twin.platform_reset();
     assert_eq!(twin, Twin::fresh());
     twin.guest_write(0x2C, 0xF, 2).unwrap();
@@ -246,7 +256,7 @@ fn function_reset() {
     twin.guest_write(0xA8, 0xE, u32::MAX).unwrap();
     twin.guest_write(0xA8, 0xF, 0xFFFF_FFFE).unwrap();
     assert_eq!(dword(&twin, 0x04), 0x00900407);
-    twin.guest_write(0xA8, 0x1, 1).unwrap();
+    reset(&mut twin);
     let kept = [
         (0x00, 0x01FF8086),
         (0x2C, 0xFFFFFFFF),
@@ -271,7 +281,9 @@ fn function_reset() {
 
 #[test]
 fn function_reset_at_128_mb_clears_the_aperture_bits() {
-    let twin = after(&[(0x60, 0x4, 0), (0x18, 0xF, u32::MAX), (0xA8, 0x1, 1)]);
+    let mut twin = after(&[(0x60, 0x4, 0), (0x18, 0xF, u32::MAX)]);
+    assert_eq!(dword(&twin, 0x18), 0xF800_000C);
+    reset(&mut twin);
     assert_eq!(dword(&twin, 0x18), 0x0000_000C);
     assert_eq!(dword(&twin, 0x60), 0);
 }
@@ -283,6 +295,8 @@ fn latch_stores_and_reads_back() {
     assert_eq!(twin.port_read(0xCF8, 4), Ok(0x80FF_FFFC));
     twin.port_write(0xCF8, 4, 0x8000_10A9).unwrap();
     twin.port_write(0xCFC, 1, 1).unwrap();
+    assert_eq!(twin.port_read(0xCF8, 4), Ok(0x8000_10A8));
+    twin.end_signal();
     assert_eq!(twin.port_read(0xCF8, 4), Ok(0x8000_10A8));
     twin.platform_reset();
     assert_eq!(twin.port_read(0xCF8, 4), Ok(0));

@@ -138,6 +138,8 @@ fn other_lines_are_found() {
     assert!(finds_lines(|line| instead(line, b"P\n", b"Z\n")));
     assert!(finds_lines(|line| instead(line, b"Z\n", b"\n")));
     assert!(finds_lines(|line| instead(line, b"Z \n", b"Z\n")));
+    assert!(finds_lines(|line| instead(line, b"E\n", b"Z\n")));
+    assert!(finds_lines(|line| instead(line, b"E\n", b"R 00 0\n")));
     assert!(finds_lines(|line| line.to_ascii_uppercase()));
     assert!(finds_lines(|line| line
         .strip_suffix(b"\n")

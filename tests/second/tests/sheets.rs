@@ -307,6 +307,8 @@ fn resets() {
         say(&ONE, "Z\nR 10 F\nP\nR 10 F"),
         "OK\nOK 00001234\nOK\nOK 00001234\n"
     );
+    // The end signal is no line of a sheet's session and resets nothing.
+    assert_eq!(say(&ONE, &session("E")), "OK\nOK\nNO 9\nOK 0000ABFF\n");
 }
 
 #[test]
@@ -357,6 +359,9 @@ fn the_function_reset_is_a_line_of_sheets_alone() {
         assert_eq!(say(&ONE, &format!("{line}\n")), "NO 9\n", "{line:?}");
     }
     for line in [
+        "E",
+        "E ",
+        "e",
         "K 13",
         "N 0CF8",
         "O 0CF8 4 80001000",

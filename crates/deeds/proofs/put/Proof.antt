@@ -18,7 +18,7 @@ number-requires c κs = search needs
 returns : tie.Need-returns
 returns c =
     let w = c .before .before .write in
-    ap (λ (x : Reply). lent x (w .last .0) (w .result .closed)) (c .number .ensures) ∙ rw (c .before .before .before .before .before .all-guests .ensures) at (w .ensures)
+    ap (λ (x : Reply). lent x (w .last .0) (w .result .flags)) (c .number .ensures) ∙ rw (c .before .before .before .before .before .all-guests .ensures) at (w .ensures)
 
 pub put-spec : {M : Type 1} → statement M
 put-spec = tie.close (tie.spec all-guests-requires write-requires number-requires returns)

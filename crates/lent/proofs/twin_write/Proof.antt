@@ -49,7 +49,7 @@ use lib.ListN.{length, getD}
 use Rattle.answer.specs.Refusals.{no}
 use Rattle.map.specs.Map.{guests}
 use Rattle.rules.specs.declared.State.{State}
-use Rattle.rules.specs.declared.Closed.{Closed}
+use Rattle.rules.specs.declared.Flags.{Flags}
 use Rattle.rules.specs.Guest.{writeOf}
 use Rattle.writes.specs.Bytes.{lent, writeLanes}
 use Rattle.writes.proofs.Bridge.{write-is}
@@ -58,8 +58,8 @@ use Rattle.deeds.specs.declared.Stored.{Stored}
 use Rattle.tells.specs.Told.{leaves}
 use Rattle.rules.proofs.State as T
 use Rattle.rules.proofs.State.Laws as T′
-use Rattle.rules.proofs.Closed as K
-use Rattle.rules.proofs.Closed.Laws as K′
+use Rattle.rules.proofs.Flags as K
+use Rattle.rules.proofs.Flags.Laws as K′
 use Rattle.deeds.proofs.Stored as S
 use Rattle.deeds.proofs.Stored.Laws as S′
 use Rattle.deeds.proofs.put as put
@@ -86,7 +86,7 @@ vals = LL.vals T.the-type T′.the-laws
 abbrev svals : Stored → List Val
 svals = LL.vals S.the-type S′.the-laws
 
-abbrev kvals : Closed → List Val
+abbrev kvals : Flags → List Val
 kvals = LL.vals K.the-type K′.the-laws
 
 -- what whoever holds a State knows: it has 256 bytes, and its flags are flags
@@ -96,7 +96,7 @@ bytes-are h was = let g = LL.owed T.the-type T′.the-laws h (vals h) was in sea
 bytes-fit : (h : State) → Is T.the-row h (vals h) → (i : ℕ) → Fits w8 (getD (h .bytes) i 0)
 bytes-fit h was i = let g = LL.owed T.the-type T′.the-laws h (vals h) was in search needs
 
-closed-is : (h : State) → Is T.the-row h (vals h) → Is K.the-row (h .closed) (kvals (h .closed))
+closed-is : (h : State) → Is T.the-row h (vals h) → Is K.the-row (h .flags) (kvals (h .flags))
 closed-is h was = LL.owed T.the-type T′.the-laws h (vals h) was .1 .1 .0
 
 -- and of what the call hands back: its number and its flags
@@ -106,17 +106,17 @@ stored-is r v is = LL.owes S.the-type S′.the-laws r (LL.owed S.the-type S′.t
 number-is : (r : Stored) → Is S.the-row r (svals r) → Is u32 (r .number) (vint w32 (r .number) ∷ [])
 number-is r is = LL.owed S.the-type S′.the-laws r (svals r) is .0
 
-flags-are : (r : Stored) → Is S.the-row r (svals r) → Is K.the-row (r .closed) (kvals (r .closed))
+flags-are : (r : Stored) → Is S.the-row r (svals r) → Is K.the-row (r .flags) (kvals (r .flags))
 flags-are r is = LL.owed S.the-type S′.the-laws r (svals r) is .1 .0
 
 -- the record at other bytes, and with other flags
 abbrev new : State → List ℕ → State
-new h z = record { bytes = z; latch = h .latch; closed = h .closed }
+new h z = record { bytes = z; latch = h .latch; flags = h .flags }
 
-abbrev last : State → List ℕ → Closed → State
-last h z c = record { bytes = z; latch = h .latch; closed = c }
+abbrev last : State → List ℕ → Flags → State
+last h z c = record { bytes = z; latch = h .latch; flags = c }
 
-last-is : (h : State) (z : List ℕ) (c : Closed) → Is T.the-row (new h z) (vals (new h z)) → Is K.the-row c (kvals c) → Is T.the-row (last h z c) (vals (last h z c))
+last-is : (h : State) (z : List ℕ) (c : Flags) → Is T.the-row (new h z) (vals (new h z)) → Is K.the-row c (kvals c) → Is T.the-row (last h z c) (vals (last h z c))
 last-is h z c was is = let g = LL.owed T.the-type T′.the-laws (new h z) (vals (new h z)) was in LL.owes T.the-type T′.the-laws (last h z c) (g .0, (g .1 .0, (is, tt)))
 
 -- the contract that the proof cites
@@ -149,13 +149,13 @@ module _ {M : Type 1} (𝓤 : URA M) (H : Heap 𝓤) (A : Atoms 𝓤) (W : Given
 
   -- what the call says of its number, the bytes it leaves and the flags it hands back
   abbrev Fact : Stored → List ℕ → Type 0
-  Fact r z = lent (no (r .number)) z (r .closed) ≡ writeLanes guests (h .closed) (h .bytes) m l d
+  Fact r z = lent (no (r .number)) z (r .flags) ≡ writeLanes guests (h .flags) (h .bytes) m l d
 
   exits : (z : List ℕ) (r : Stored) → Is T.the-row h (vals h) → Is u32 (r .number) (vint w32 (r .number) ∷ []) → Fact r z
-      → ent 𝓤 (sep 𝓤 (A .obs γ (T.the-row .coded .code (last h z (r .closed)))) (sep 𝓤 (A .bor κ (Body (mem T.the-row) b o γ)) (A .lft κ q))) (Post (vint w32 (r .number)))
+      → ent 𝓤 (sep 𝓤 (A .obs γ (T.the-row .coded .code (last h z (r .flags)))) (sep 𝓤 (A .bor κ (Body (mem T.the-row) b o γ)) (A .lft κ q))) (Post (vint w32 (r .number)))
   exits z r was is e =
-      qed W (‵ (fobs γ (T.the-row .coded .code (last h z (r .closed)))) ∷ ‵ (fbor κ (Body (mem T.the-row) b o γ)) ∷ ‵ (flft κ q) ∷ []) ∵
-      suffices ! _ (ends-at 𝓤 H A f.ended stayed (f.clauses 𝓤 H A at-mem run) W (((κ, tt), (q, tt), tt, x, at), tt) (vint w32 (r .number)) (r .number) (last h z (r .closed), (tt, (tt, (tt, tt)))) (tt, (tt, (tt, (tt, tt))))) $
+      qed W (‵ (fobs γ (T.the-row .coded .code (last h z (r .flags)))) ∷ ‵ (fbor κ (Body (mem T.the-row) b o γ)) ∷ ‵ (flft κ q) ∷ []) ∵
+      suffices ! _ (ends-at 𝓤 H A f.ended stayed (f.clauses 𝓤 H A at-mem run) W (((κ, tt), (q, tt), tt, x, at), tt) (vint w32 (r .number)) (r .number) (last h z (r .flags), (tt, (tt, (tt, tt)))) (tt, (tt, (tt, (tt, tt))))) $
       says ! (ap (bridge.whole h (bytes-are h was) (λ i. bytes-fit h was i .fits)) e ∙ write-is h (bytes-are h was) (λ i. bytes-fit h was i .fits) m l d) $ nothing ! $ move ! (3 ∷ 0 ∷ []) $ join ! $
       frame ! $ feqI ! (List Val) (vptr b o ∷ []) (vptr b o ∷ []) refl $ fjoin3 ! $
       nothing ! $ owned ! u32 (Is u32) (uint-makes 𝓤 H A W w32) d _ (refl, d-fits) $ fjoin ! $ owned ! u32 (Is u32) (uint-makes 𝓤 H A W w32) l _ (refl, l-fits) $ fjoin ! $ owned ! u32 (Is u32) (uint-makes 𝓤 H A W w32) m _ (refl, m-fits) $ fjoin ! $
@@ -165,17 +165,17 @@ module _ {M : Type 1} (𝓤 : URA M) (H : Heap 𝓤) (A : Atoms 𝓤) (W : Given
   abbrev y : GName → RefT (List ℕ)
   y δ = record { ptr = (b, o + 0); name = δ; now = h .bytes }
 
-  abbrev args : GName → RefT (List ℕ) × (Closed × (ℕ × (ℕ × (ℕ × Unit {0}))))
-  args δ = (y δ, (h .closed, (m, (l, (d, tt)))))
+  abbrev args : GName → RefT (List ℕ) × (Flags × (ℕ × (ℕ × (ℕ × Unit {0}))))
+  args δ = (y δ, (h .flags, (m, (l, (d, tt)))))
 
   abbrev to-put : ℕ → GName → Put 𝓤 H A at-mem run .Ghost
-  to-put ν δ = (((ν ∷ [], tt), (fullShare, tt), tt, args δ, (vptr b (o + 0) ∷ [], (kvals (h .closed), (vint w32 m ∷ [], (vint w32 l ∷ [], (vint w32 d ∷ [], tt)))))), tt)
+  to-put ν δ = (((ν ∷ [], tt), (fullShare, tt), tt, args δ, (vptr b (o + 0) ∷ [], (kvals (h .flags), (vint w32 m ∷ [], (vint w32 l ∷ [], (vint w32 d ∷ [], tt)))))), tt)
 
-  goes-put : Is K.the-row (h .closed) (kvals (h .closed)) → (ν : ℕ) (δ : GName) → ent 𝓤 (sep 𝓤 (A .lft (ν ∷ []) fullShare) (sem 𝓤 H A (MutRef (named 0) (ν ∷ []) P .own (y δ) (vptr b (o + 0) ∷ [])))) (Put 𝓤 H A at-mem run .pre (to-put ν δ))
+  goes-put : Is K.the-row (h .flags) (kvals (h .flags)) → (ν : ℕ) (δ : GName) → ent 𝓤 (sep 𝓤 (A .lft (ν ∷ []) fullShare) (sem 𝓤 H A (MutRef (named 0) (ν ∷ []) P .own (y δ) (vptr b (o + 0) ∷ [])))) (Put 𝓤 H A at-mem run .pre (to-put ν δ))
   goes-put kept ν δ =
       qed W (‵ (flft (ν ∷ []) fullShare) ∷ ‵ (MutRef (named 0) (ν ∷ []) P .own (y δ) (vptr b (o + 0) ∷ [])) ∷ []) ∵ nothing ! $ move ! (1 ∷ 0 ∷ []) $ join ! $ move ! (1 ∷ []) $
       nothing ! $ owned ! u32 (Is u32) (uint-makes 𝓤 H A W w32) d _ (refl, d-fits) $ fjoin ! $ owned ! u32 (Is u32) (uint-makes 𝓤 H A W w32) l _ (refl, l-fits) $ fjoin ! $ owned ! u32 (Is u32) (uint-makes 𝓤 H A W w32) m _ (refl, m-fits) $ fjoin ! $
-      owned ! K.the-row (Is K.the-row) (LL.makes K.the-type K′.the-plain 𝓤 H A) (h .closed) _ kept $ fjoin ! $ move ! (1 ∷ 0 ∷ []) $ fjoin ! $ move ! (1 ∷ 0 ∷ []) $ join ! $ frame ! $ done !
+      owned ! K.the-row (Is K.the-row) (LL.makes K.the-type K′.the-plain 𝓤 H A) (h .flags) _ kept $ fjoin ! $ move ! (1 ∷ 0 ∷ []) $ fjoin ! $ move ! (1 ∷ 0 ∷ []) $ join ! $ frame ! $ done !
 
   module _ (C : Calls 𝓤 H) (Λ : Loops 𝓤 H) (fm : FmC 𝓤 H (W .laws) C) (known : Triple 𝓤 (C #deeds·put) (Put 𝓤 H A at-mem run)) where
     walk : ent 𝓤 (onEntry 𝓤 H A f.signature (κ, tt) (q, tt) x at) (WpFn 𝓤 H C Λ code.function (vptr b o ∷ vint w32 m ∷ vint w32 l ∷ vint w32 d ∷ []) Post)
@@ -189,7 +189,7 @@ module _ {M : Type 1} (𝓤 : URA M) (H : Heap 𝓤) (A : Atoms 𝓤) (W : Given
         move ! (16 ∷ 17 ∷ 18 ∷ []) $ opens ! tt T.the-row {h = h} b o (λ vs. spelt ! T.the-row (Is T.the-row) (shows 𝓤 H A T.the-row) vals (LL.tells T.the-type T′.the-laws) fullShare h vs b o $
         move ! (1 ∷ []) $ peeks ! T.the-row (Is T.the-row) (shows 𝓤 H A T.the-row) h (vals h) (λ was. move ! (1 ∷ 0 ∷ []) $
         -- [the cell; what a State owns; the open borrow; obs; auth; room for _7; …; room for _6; …; room for _5; …; _4; …; _3; …; _2; …; _1; …]
-        assigns ! (of-opd ! (load ! (from ! (hop ! (look ! 17 refl) (fld ! refl (stop !)))) (look-in ! 0 (own-type ! (sub ! 2 refl (whole !)))))) (from ! (stop !)) (init ! 9 refl (LL.lawful K.the-type K′.the-laws 𝓤 H A W .typed (h .closed) _ (closed-is h was) .0)) $
+        assigns ! (of-opd ! (load ! (from ! (hop ! (look ! 17 refl) (fld ! refl (stop !)))) (look-in ! 0 (own-type ! (sub ! 2 refl (whole !)))))) (from ! (stop !)) (init ! 9 refl (LL.lawful K.the-type K′.the-laws 𝓤 H A W .typed (h .flags) _ (closed-is h was) .0)) $
         closes ! tt T.the-row h (vals h) b o $
         -- [obs; the borrow; the token; room for _7; …; room for _6; …; _5; …; _4; …; _3; …; _2; …; _1; …]
         assigns ! (addr ! (from ! (hop ! (look ! 15 refl) (fld ! refl (stop !))))) (from ! (stop !)) (init ! 3 refl (tt, tt)) $
@@ -215,8 +215,8 @@ module _ {M : Type 1} (𝓤 : URA M) (H : Heap 𝓤) (A : Atoms 𝓤) (W : Given
         opens ! tt T.the-row {h = new h (zs .0)} b o (λ vs′. spelt ! T.the-row (Is T.the-row) (shows 𝓤 H A T.the-row) vals (LL.tells T.the-type T′.the-laws) fullShare (new h (zs .0)) vs′ b o $
         move ! (1 ∷ []) $ peeks ! T.the-row (Is T.the-row) (shows 𝓤 H A T.the-row) (new h (zs .0)) (vals (new h (zs .0))) (λ was′. drop ! $
         -- [the cell; the open borrow; obs; auth; true; the others'; _7; …; _6; …; _5; …; _4; …; _3; …; _2; …; _1; …]
-        assigns ! (of-opd ! (load ! (from ! (fld ! refl (stop !))) (look-in ! 8 (sub ! 1 refl (whole !))))) (from ! (hop ! (look ! 18 refl) (fld ! refl (stop !)))) (store-in ! 0 (own-type ! (sub ! 2 refl (whole !))) (LL.lawful K.the-type K′.the-laws 𝓤 H A W .typed (r .closed) _ (flags-are r (stored-is r w is)) .0)) $
-        owned ! T.the-row (Is T.the-row) (LL.makes T.the-type T′.the-plain 𝓤 H A) (last h (zs .0) (r .closed)) _ (last-is h (zs .0) (r .closed) was′ (flags-are r (stored-is r w is))) $ move ! (1 ∷ 0 ∷ []) $ closes ! tt T.the-row (last h (zs .0) (r .closed)) (vals (last h (zs .0) (r .closed))) b o $
+        assigns ! (of-opd ! (load ! (from ! (fld ! refl (stop !))) (look-in ! 8 (sub ! 1 refl (whole !))))) (from ! (hop ! (look ! 18 refl) (fld ! refl (stop !)))) (store-in ! 0 (own-type ! (sub ! 2 refl (whole !))) (LL.lawful K.the-type K′.the-laws 𝓤 H A W .typed (r .flags) _ (flags-are r (stored-is r w is)) .0)) $
+        owned ! T.the-row (Is T.the-row) (LL.makes T.the-type T′.the-plain 𝓤 H A) (last h (zs .0) (r .flags)) _ (last-is h (zs .0) (r .flags) was′ (flags-are r (stored-is r w is))) $ move ! (1 ∷ 0 ∷ []) $ closes ! tt T.the-row (last h (zs .0) (r .flags)) (vals (last h (zs .0) (r .flags))) b o $
         -- [obs; the borrow; the token; true; the others'; _7; …; _6; …; _5; …; _4; …; _3; …; _2; …; _1; …; room for _0; …]
         assigns ! (of-opd ! (load ! (from ! (fld ! refl (stop !))) (look-in ! 7 (sub ! 0 refl (whole !))))) (from ! (stop !)) (init ! 19 refl (uint-lawful 𝓤 H A W w32 .typed (r .number) _ (number-is r (stored-is r w is)) .0)) $
         returns ! (look ! 19 refl) $ forget ! 5 refl $ forget ! 7 refl $ forget ! 9 refl $ forget ! 11 refl $ forget ! 13 refl $ forget ! 15 refl $ forget ! 17 refl $ forget ! 19 refl $

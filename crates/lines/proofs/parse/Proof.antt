@@ -203,6 +203,9 @@ returns-15 : tie.Need-returns-15
 unfolding commandOf
 returns-15 c = search tests
 
+shared-slice-read-if17 : tie.Need-shared-slice-read-if17
+shared-slice-read-if17 c = search needs
+
 returns-16 : tie.Need-returns-16
 unfolding commandOf
 returns-16 c = search tests
@@ -210,6 +213,10 @@ returns-16 c = search tests
 returns-17 : tie.Need-returns-17
 unfolding commandOf
 returns-17 c = search tests
+
+returns-18 : tie.Need-returns-18
+unfolding commandOf
+returns-18 c = search tests
 
 pub parse-spec : {M : Type 1} → statement M
 parse-spec =
@@ -276,5 +283,7 @@ parse-spec =
     returns-14
     shared-slice-read-if16
     returns-15
+    shared-slice-read-if17
     returns-16
-    returns-17)
+    returns-17
+    returns-18)

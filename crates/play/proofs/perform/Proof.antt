@@ -42,15 +42,24 @@ enum-told c = search needs
 all-defaults-requires : tie.Need-all-defaults-requires
 all-defaults-requires c κs = search needs
 
+fresh-flags-requires : tie.Need-fresh-flags-requires
+fresh-flags-requires c κs = search needs
+
 enum-told-2 : tie.Need-enum-told-2
 enum-told-2 c = search needs
+
+end-requires : tie.Need-end-requires
+end-requires c κs = search needs
+
+enum-told-3 : tie.Need-enum-told-3
+enum-told-3 c = search needs
 
 returns : tie.Need-returns
 unfolding boxNext boxSay textOf
 returns c =
     let a = c .before .before .before .before .before .before .before .args in
     let b = box (a .guest .now) (a .host .now) (a .m .now) (a .c) in
-    rw (c .before .before .before .before .before .k .given .1) (c .write-said .ensures ∙ ap (λ (x : Lent). replyText (x .reply)) (c .before .before .write .ensures), ap (λ (x : Lent). with b (x .bytes) (x .closed)) (c .before .before .write .ensures))
+    rw (c .before .before .before .before .before .k .given .1) (c .write-said .ensures ∙ ap (λ (x : Lent). replyText (x .reply)) (c .before .before .write .ensures), ap (λ (x : Lent). with b (x .bytes) (x .flags)) (c .before .before .write .ensures))
 
 returns-2 : tie.Need-returns-2
 unfolding boxNext boxSay textOf
@@ -65,11 +74,15 @@ returns-3 c =
 
 returns-4 : tie.Need-returns-4
 unfolding boxNext boxSay textOf
-returns-4 c = rw (c .before .enum-told .given .1) (refl, rw (c .all-defaults .ensures))
+returns-4 c = rw (c .before .before .enum-told .given .1) (refl, rw (c .before .all-defaults .ensures, c .fresh-flags .ensures))
 
 returns-5 : tie.Need-returns-5
 unfolding boxNext boxSay textOf
-returns-5 c = rw (c .enum-told2 .given .1) (refl, refl)
+returns-5 c = rw (c .before .before .enum-told2 .given .1) (refl, rw (c .end .ensures .0, c .end .ensures .1))
+
+returns-6 : tie.Need-returns-6
+unfolding boxNext boxSay textOf
+returns-6 c = rw (c .enum-told3 .given .1) (refl, refl)
 
 pub perform-spec : {M : Type 1} → statement M
 perform-spec =
@@ -86,9 +99,13 @@ perform-spec =
     host-said-requires
     enum-told
     all-defaults-requires
+    fresh-flags-requires
     enum-told-2
+    end-requires
+    enum-told-3
     returns
     returns-2
     returns-3
     returns-4
-    returns-5)
+    returns-5
+    returns-6)

@@ -1,47 +1,20 @@
--- Four bytes as read.
-use Rattle.reads.specs.Shown.{shownDword}
+-- Four bytes as a guest reads them: ones while busy.
+use Rattle.bits.proofs.Tests.{tests}
+use Rattle.reads.specs.Shown.{readDword}
 use borrow.Author.Needs.{needs}
 use Rattle.reads.proofs.dword_at.Statement.{statement}
 use Rattle.reads.proofs.dword_at.Tie as tie
 
-shown-requires : tie.Need-shown-requires
-shown-requires c κs = search needs
-
-add-shown : tie.Need-add-shown
-add-shown c = search needs
-
-shown-requires-2 : tie.Need-shown-requires-2
-shown-requires-2 c κs = search needs
-
-add-shown-2 : tie.Need-add-shown-2
-add-shown-2 c = search needs
-
-shown-requires-3 : tie.Need-shown-requires-3
-shown-requires-3 c κs = search needs
-
-add-shown-3 : tie.Need-add-shown-3
-add-shown-3 c = search needs
-
-shown-requires-4 : tie.Need-shown-requires-4
-shown-requires-4 c κs = search needs
-
-join-requires : tie.Need-join-requires
-join-requires c κs = search needs
-
 returns : tie.Need-returns
-unfolding shownDword
-returns c = cc
+unfolding readDword
+returns c = search tests
+
+shown-dword-requires : tie.Need-shown-dword-requires
+shown-dword-requires c κs = search needs
+
+returns-2 : tie.Need-returns-2
+unfolding readDword
+returns-2 c = search (tests, c .shown-dword .ensures)
 
 pub dword-at-spec : {M : Type 1} → statement M
-dword-at-spec =
-    tie.close
-    (tie.spec
-    shown-requires
-    add-shown
-    shown-requires-2
-    add-shown-2
-    shown-requires-3
-    add-shown-3
-    shown-requires-4
-    join-requires
-    returns)
+dword-at-spec = tie.close (tie.spec returns shown-dword-requires returns-2)

@@ -1,18 +1,20 @@
--- The bytes with the computed one.
+-- The bytes as a guest reads them: ones while busy.
+use Rattle.bits.proofs.Tests.{tests}
 use Rattle.reads.specs.Shown.{imageBytes}
 use borrow.Author.Needs.{needs}
 use Rattle.reads.proofs.image.Statement.{statement}
 use Rattle.reads.proofs.image.Tie as tie
 
-shown-requires : tie.Need-shown-requires
-shown-requires c κs = search needs
-
-array-write-t : tie.Need-array-write-t
-array-write-t c = search needs
-
 returns : tie.Need-returns
 unfolding imageBytes
-returns c = cc
+returns c = search tests
+
+shown-image-requires : tie.Need-shown-image-requires
+shown-image-requires c κs = search needs
+
+returns-2 : tie.Need-returns-2
+unfolding imageBytes
+returns-2 c = search (tests, c .shown-image .ensures)
 
 pub image-spec : {M : Type 1} → statement M
-image-spec = tie.close (tie.spec shown-requires array-write-t returns)
+image-spec = tie.close (tie.spec returns shown-image-requires returns-2)

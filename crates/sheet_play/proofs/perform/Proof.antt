@@ -39,6 +39,9 @@ enum-told c = search needs
 enum-told-2 : tie.Need-enum-told-2
 enum-told-2 c = search needs
 
+enum-told-3 : tie.Need-enum-told-3
+enum-told-3 c = search needs
+
 returns : tie.Need-returns
 unfolding boxNext boxSay
 returns c = rw (c .before .before .before .before .k .given .1, ← (c .before .write-in .ensures)) (c .write-said .ensures, refl)
@@ -59,6 +62,10 @@ returns-5 : tie.Need-returns-5
 unfolding boxNext boxSay textOf
 returns-5 c = rw (c .enum-told2 .given .1) (refl, refl)
 
+returns-6 : tie.Need-returns-6
+unfolding boxNext boxSay textOf
+returns-6 c = rw (c .enum-told3 .given .1) (refl, refl)
+
 pub perform-spec : {M : Type 1} → statement M
 perform-spec =
     tie.close
@@ -74,8 +81,10 @@ perform-spec =
     host-said-requires
     enum-told
     enum-told-2
+    enum-told-3
     returns
     returns-2
     returns-3
     returns-4
-    returns-5)
+    returns-5
+    returns-6)

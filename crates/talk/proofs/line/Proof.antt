@@ -44,6 +44,12 @@ platform-reset-requires c κs = search needs
 enum-told-2 : tie.Need-enum-told-2
 enum-told-2 c = search needs
 
+end-signal-requires : tie.Need-end-signal-requires
+end-signal-requires c κs = search needs
+
+enum-told-3 : tie.Need-enum-told-3
+enum-told-3 c = search needs
+
 returns : tie.Need-returns
 unfolding nextOf sayOf happens textOf
 returns c = rw (c .before .before .before .before .k .given .1) (c .write-said .ensures ∙ ap (λ (x : Outcome). replyText (x .reply)) (c .before .before .write .ensures), ap (λ (x : Outcome). x .state) (c .before .before .write .ensures))
@@ -62,7 +68,11 @@ returns-4 c = rw (c .before .enum-told .given .1) (refl, c .platform-reset .ensu
 
 returns-5 : tie.Need-returns-5
 unfolding nextOf sayOf happens textOf
-returns-5 c = rw (c .enum-told2 .given .1) (refl, refl)
+returns-5 c = rw (c .before .enum-told2 .given .1) (refl, c .end-signal .ensures)
+
+returns-6 : tie.Need-returns-6
+unfolding nextOf sayOf happens textOf
+returns-6 c = rw (c .enum-told3 .given .1) (refl, refl)
 
 pub line-spec : {M : Type 1} → statement M
 line-spec =
@@ -80,8 +90,11 @@ line-spec =
     enum-told
     platform-reset-requires
     enum-told-2
+    end-signal-requires
+    enum-told-3
     returns
     returns-2
     returns-3
     returns-4
-    returns-5)
+    returns-5
+    returns-6)

@@ -1,6 +1,6 @@
--- A write where the bytes lie: stored, then cleared by MSAC, or reset by AFCTL.
+-- A write where the bytes lie: stored, then cleared by MSAC.
 use mathlib.Core.Path.{sym}
-use Rattle.writes.proofs.Tested.{clears, clears-not, resets, resets-not, resets-off, only-stores}
+use Rattle.writes.proofs.Tested.{clears, clears-not, only-stores}
 use borrow.Author.Needs.{needs}
 use Rattle.writes.proofs.step.Statement.{statement}
 use Rattle.writes.proofs.step.Tie as tie
@@ -23,43 +23,11 @@ returns-2 c =
     let a = s .before .before .args in
     rw (s .store .ensures) (sym (clears-not (a .guest .now) (a .c) (a .m .now) (a .o) (a .lanes) (a .value) (s .before .before .pre .1) (c .before .if1 .taken) (c .if2 .left)))
 
-reset-requires : tie.Need-reset-requires
-reset-requires c κs = search needs
-
 returns-3 : tie.Need-returns-3
 returns-3 c =
-    let s = c .before .before .before .before .before .before in
+    let s = c .before in
     let a = s .before .before .args in
-    rw (c .reset .ensures, s .store .ensures) (sym (resets (a .guest .now) (a .c) (a .m .now) (a .o) (a .lanes) (a .value) (s .before .before .pre .1) (c .before .before .before .before .before .if1 .left) (c .before .before .before .before .if3 .taken) (c .before .before .before .if4 .taken) (c .before .before .if5 .taken)))
-
-returns-4 : tie.Need-returns-4
-returns-4 c =
-    let s = c .before .before .before .before in
-    let a = s .before .before .args in
-    rw (s .store .ensures) (sym (resets-not (a .guest .now) (a .c) (a .m .now) (a .o) (a .lanes) (a .value) (s .before .before .pre .1) (c .before .before .before .if1 .left) (c .before .before .if3 .taken) (c .before .if4 .taken) (c .if5 .left)))
-
-returns-5 : tie.Need-returns-5
-returns-5 c =
-    let s = c .before .before .before in
-    let a = s .before .before .args in
-    rw (s .store .ensures) (sym (resets-off (a .guest .now) (a .c) (a .m .now) (a .o) (a .lanes) (a .value) (s .before .before .pre .1) (c .before .before .if1 .left) (c .before .if3 .taken) (c .if4 .left)))
-
-returns-6 : tie.Need-returns-6
-returns-6 c =
-    let s = c .before .before in
-    let a = s .before .before .args in
-    rw (s .store .ensures) (sym (only-stores (a .guest .now) (a .c) (a .m .now) (a .o) (a .lanes) (a .value) (s .before .before .pre .1) (c .before .if1 .left) (c .if3 .left)))
+    rw (s .store .ensures) (sym (only-stores (a .guest .now) (a .c) (a .m .now) (a .o) (a .lanes) (a .value) (s .before .before .pre .1) (c .if1 .left)))
 
 pub step-spec : {M : Type 1} → statement M
-step-spec =
-    tie.close
-    (tie.spec
-    store-requires
-    clear-requires
-    returns
-    returns-2
-    reset-requires
-    returns-3
-    returns-4
-    returns-5
-    returns-6)
+step-spec = tie.close (tie.spec store-requires clear-requires returns returns-2 returns-3)

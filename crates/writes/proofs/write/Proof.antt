@@ -1,4 +1,4 @@
--- A guest write over lent bytes: refusals 5 and 6 in order, else the step.
+-- A guest write over lent bytes: refusals 5 and 6 in order, dropped while busy, else the step.
 use Rattle.bits.proofs.Tests.{tests}
 use Rattle.writes.specs.Bytes.{writeLanes}
 use borrow.Author.Needs.{needs}
@@ -17,16 +17,20 @@ returns-3 : tie.Need-returns-3
 unfolding writeLanes
 returns-3 c = search tests
 
+returns-4 : tie.Need-returns-4
+unfolding writeLanes
+returns-4 c = search tests
+
 step-requires : tie.Need-step-requires
 step-requires c κs = search needs
 
-closes-requires : tie.Need-closes-requires
-closes-requires c κs = search needs
+raises-requires : tie.Need-raises-requires
+raises-requires c κs = search needs
 
-returns-4 : tie.Need-returns-4
+returns-5 : tie.Need-returns-5
 unfolding writeLanes
-returns-4 c = search (tests, c .closes .ensures, c .before .step .ensures)
+returns-5 c = search (tests, c .raises .ensures, c .before .step .ensures)
 
 pub write-spec : {M : Type 1} → statement M
 write-spec =
-    tie.close (tie.spec returns returns-2 returns-3 step-requires closes-requires returns-4)
+    tie.close (tie.spec returns returns-2 returns-3 returns-4 step-requires raises-requires returns-5)

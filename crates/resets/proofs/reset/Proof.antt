@@ -1,8 +1,8 @@
 -- The function reset: the F bits of each byte take the default's, and then bit 0 of AFCTL is 0.
-use Rattle.writes.specs.Bytes.{resetBytes}
+use Rattle.resets.specs.Bytes.{resetBytes}
 use borrow.Author.Needs.{needs}
-use Rattle.writes.proofs.reset.Statement.{statement}
-use Rattle.writes.proofs.reset.Tie as tie
+use Rattle.resets.proofs.reset.Statement.{statement}
+use Rattle.resets.proofs.reset.Tie as tie
 
 all-resets-requires : tie.Need-all-resets-requires
 all-resets-requires c κs = search needs
