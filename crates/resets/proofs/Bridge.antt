@@ -1,6 +1,5 @@
 -- The end of a function reset a byte at a time comes to the rule, bit by bit: for every state whose bytes are 256 bytes.
 use mathlib.Core.Path.{_≡_, refl, _∙_}
-use mathlib.Core.List.{List}
 use mathlib.Core.Bool.{Bool, true, false, not}
 use Prim.Native.Nat.{ℕ, _<_}
 use native.Mathlib.Omega.{arith}

@@ -10,7 +10,7 @@ use Rattle.bits.specs.Bits.{bit, numberOf, byteOf}
 use Rattle.bits.specs.Choice.{pick, both, either, allBelow}
 use Rattle.bits.proofs.Laws.{number-ext, number-none, number-split}
 use Rattle.bits.proofs.Below.{below, both-left, both-right, is-true, is-false}
-use Rattle.answer.specs.Refusals.{ok}
+use Rattle.answer.specs.Refusals.{ok, WIDTH, NOT-OURS, OTHER-FUNCTION}
 use Rattle.map.specs.Registers.{PCICMD2, CAPPOINT, CAPL, SVID2, SID2, AFCTL, SWSCI}
 use Rattle.map.specs.Class.{Field, svid2, sid2, swsci15, once, computed, stores, isHost, sameClass}
 use Rattle.map.specs.Map.{rows, rowAt, classOf, defaults, defaultAt}
@@ -20,12 +20,13 @@ use Rattle.rules.specs.Access.{byte, busy, badOffset, badLanes, done, re
 use Rattle.rules.specs.Guest.{writtenOf, stepOf, writeOf}
 use Rattle.rules.specs.Read.{pointer, shownBit, readBit, readValue, readOf}
 use Rattle.rules.specs.Host.{notHost, hostStepOf, hostOf}
+use Rattle.rules.specs.Reset.{reset, endedBit, endedOf, endOf}
 use Rattle.rules.specs.Claims.{unclaimed, memoryClaimOf, ioClaimOf}
-use Rattle.rules.specs.Ports.{badWidth, notOurs, atLatch, otherFunction, latched, portWriteOf}
+use Rattle.rules.specs.Ports.{badWidth, notOurs, atLatch, otherFunction, latched, portValue, portWriteOf}
 use Rattle.rules.specs.Events.{Event, read, write, port-read, port-write, host-update, end-signal, platform-reset, happens, run}
-use Rattle.rules.specs.Demand3.{Write-once, Read-only, Computed, Aperture, Refused, Reads, Busy, Ones, Dropped, Started, Unclaimed, Poll, lockedWord, Read-back-2C, Read-back-2E, Read-back-E8}
+use Rattle.rules.specs.Demand3.{Write-once, Read-only, Computed, Aperture, Refused, Reads, Busy, Ones, Dropped, Unclaimed, Started, Ended, Unended, Poll, lockedWord, Read-back-2C, Read-back-2E, Read-back-E8}
 use Rattle.rules.specs.History.{Seen, firstWrite, overDefault}
-use Rattle.rules.proofs.EachBit.{bit-after, write-state, each-bit-read}
+use Rattle.rules.proofs.EachBit.{bit-after, bit-ended, write-state, each-bit-read}
 use Rattle.rules.proofs.Once.{once-history}
 use Rattle.rules.proofs.Fixed.{fixed-history, default-holds}
 use Rattle.rules.proofs.Access.{good-offset}
@@ -85,16 +86,23 @@ pub busy-is : Busy
 busy-is es = ap (λ (x : Seen). x .busy) (seen-run es)
 
 pub reads-ones : Ones
-unfolding readOf readValue readBit
-reads-ones s o l e = rw e
+unfolding readOf readValue portValue readBit
+reads-ones s e = (λ o l. rw e, λ i w. rw e)
+
+-- whether it is refused or not
+left : (a : Bool) (s : State) → pick a s s ≡ s
+left true s = refl
+left false s = refl
 
 pub drops-writes : Dropped
-unfolding stepOf
-drops-writes s o l v e = write-state s o l v ∙ rw e (go (not (either (badOffset o) (badLanes l))))
+unfolding stepOf portWriteOf
+drops-writes s e = (λ o l v. write-state s o l v ∙ rw e (left (not (either (badOffset o) (badLanes l))) s), λ p w v n. rw (e, n) (go (badWidth w) (notOurs (s .latch) p w) (otherFunction (s .latch))))
   where
-    go : (a : Bool) → pick a s s ≡ s
-    go true = refl
-    go false = refl
+    go : (a b c : Bool) → pick a (refused WIDTH s) (pick b (refused NOT-OURS s) (pick c (refused OTHER-FUNCTION s) (done s))) .state ≡ s
+    go true b c = refl
+    go false true c = refl
+    go false false true = refl
+    go false false false = refl
 
 pub start-changes-nothing : Started
 unfolding stepOf
@@ -104,6 +112,14 @@ start-changes-nothing s o l v i j good t h k = rw (write-state s o l v) (go (not
     go true true = refl
     go true false = bit-after s o l v i j h k ∙ start-kept s o l v i j (good-offset o good .1) t k
     go false b = refl
+
+pub end-is : Ended
+unfolding endOf endedOf endedBit reset
+end-is s i j e h k = rw e (refl, bit-ended s i j h k)
+
+pub no-end : Unended
+unfolding endOf
+no-end s e = rw e
 
 pub claims-nothing : Unclaimed
 unfolding memoryClaimOf ioClaimOf

@@ -1,13 +1,12 @@
 -- A bit that no guest write stores holds its default, or what the last accepted host update since the last platform reset that masked it gave.
-use mathlib.Core.Path.{_≡_, refl, sym, ap, subst, _∙_}
-use mathlib.Core.List.{List, [], _∷_}
+use mathlib.Core.Path.{_≡_, refl, ap, subst, _∙_}
+use mathlib.Core.List.{List}
 use mathlib.Core.Bool.{Bool, true, false, not}
 use Prim.Native.Nat.{ℕ, _<_}
 use lib.Dec.{T, eqb, ltb, eqb→eq}
 use Rattle.bits.specs.Bits.{bit}
 use Rattle.bits.specs.Choice.{pick, both, either, allBelow}
 use Rattle.bits.proofs.Below.{below, both-left, both-right, is-false, other, pick-has}
-use borrow.Author.Tests.{eqb-true}
 use Rattle.map.specs.Class.{stores, isHost, resetStart, sameClass}
 use Rattle.map.specs.Map.{rows, rowAt, classOf, defaults, defaultAt}
 use Rattle.rules.specs.declared.State.{State}
@@ -17,7 +16,7 @@ use Rattle.rules.specs.Reset.{endedOf, endOf}
 use Rattle.rules.specs.Fresh.{freshOf}
 use Rattle.rules.specs.Events.{Event, read, write, port-read, port-write, host-update, end-signal, platform-reset, happens, next, run}
 use Rattle.rules.specs.History.{isReset, since, GuestWrite, none, at, guestWrite, gives, lastUpdate, orDefault}
-use Rattle.rules.specs.Past.{Given, nothing, given, orHeld}
+use Rattle.rules.specs.Past.{nothing, given, orHeld}
 use Rattle.rules.proofs.Past.{history, none-given}
 use Rattle.rules.proofs.EachBit.{bit-after, bit-hosted, bit-ended, host-state}
 use Rattle.rules.proofs.Kept.{unstored, unreturned}

@@ -15,7 +15,7 @@ use Rattle.rules.specs.Host.{notHost, hostStepOf}
 use Rattle.rules.specs.Fresh.{freshOf}
 use Rattle.rules.specs.Ports.{ADDRESS, DATA, badWidth, atLatch, notOurs, otherFunction, latchOf, latched, dwordOf, portLanes, placed, portWriteOf}
 use Rattle.rules.specs.Events.{Event, read, write, port-read, port-write, host-update, end-signal, platform-reset, happens, next, runFrom, run}
-use Rattle.rules.specs.History.{isReset, anyReset, since, latchAfter, GuestWrite, none, at, acceptedWrite, unlessBusy, guestWrite, starting, Seen, atStart, seenNext, seen}
+use Rattle.rules.specs.History.{isReset, anyReset, since, latchAfter, GuestWrite, none, at, acceptedWrite, unlessBusy, guestWrite, starting, Seen, seenNext, seen}
 use Rattle.rules.specs.Past.{ran}
 use Rattle.rules.proofs.EachBit.{write-state, host-state}
 use Rattle.rules.proofs.Past as P

@@ -1,5 +1,5 @@
 -- Demand 3, clause by clause: what holds after every run of guest accesses, port accesses, host updates, end signals and platform resets from the fresh state.
--- The clauses speak of held bits; what a guest reads while a function reset is under way is clause 6.
+-- The clauses speak of held bits; what a guest reads while a function reset is under way is said in clause 6.
 use mathlib.Core.Path.{_≡_}
 use mathlib.Core.List.{List}
 use mathlib.Core.Bool.{true, false}
@@ -8,19 +8,21 @@ use Rattle.bits.specs.Bits.{bit, numberOf, byteOf}
 use Rattle.bits.specs.Choice.{if_then_else_, _is_}
 use Rattle.answer.specs.Refusals.{ok}
 use Rattle.map.specs.Registers.{SVID2, SID2, CAPPOINT, CAPL, MSAC, AFCTL, SWSCI}
-use Rattle.map.specs.Class.{Field, svid2, sid2, swsci15, once, stores}
-use Rattle.map.specs.Map.{classOf}
+use Rattle.map.specs.Class.{Field, svid2, sid2, swsci15, once, resetStart, stores, hasF, sameClass}
+use Rattle.map.specs.Map.{classOf, defaultAt}
 use Rattle.rules.specs.declared.State.{State}
 use Rattle.rules.specs.Access.{byte, busy, badOffset}
 use Rattle.rules.specs.Guest.{sizeOf, exponentOf, starts, writeOf}
 use Rattle.rules.specs.Read.{shownBit, readOf}
 use Rattle.rules.specs.Plain.{readReply, shownValue}
+use Rattle.rules.specs.Reset.{endOf}
+use Rattle.rules.specs.Ports.{atLatch, portValue, portWriteOf}
 use Rattle.rules.specs.Claims.{apertureBase, unclaimed, memoryClaimOf, ioClaimOf}
 use Rattle.rules.specs.Events.{Event, read, port-read, happens, run}
 use Rattle.rules.specs.History.{seen, firstWrite, overDefault, lastUpdate, orDefault}
 
 -- 1. Since the last platform reset, or the start, each write-once field holds its default until the first accepted guest write to this
--- function that enables one of its bytes, and from then on that write's enabled bytes over the default, whatever follows.
+-- function that enables one of its bytes, and from then on that write's enabled bytes over the default, whatever follows. A write that is dropped counts as none.
 abbrev pub Write-once : Type 0
 Write-once = (es : List Event) (f : Field) (i j : ℕ) → i < 256 → j < 8 → classOf i j ≡ once f → bit (byte (run es) i) j ≡ overDefault (firstWrite f es) i j
 
@@ -48,22 +50,32 @@ abbrev pub Reads : Type 0
 Reads = (s : State) (a b : ℕ) → (happens (read a b) s .state ≡ s) × (happens (port-read a b) s .state ≡ s)
 
 -- 6. The state is busy exactly from an accepted guest write that starts a function reset, and was not dropped, until an end signal or a platform reset.
--- While busy, in every state, an accepted read gives FF in the enabled lanes, a guest write changes nothing, and nothing is claimed.
 abbrev pub Busy : Type 0
 Busy = (es : List Event) → busy (run es) ≡ seen es .busy
 
+-- The rest of clause 6 and clause 7 hold in every state. While busy an accepted read gives FF in the enabled lanes, through the port pair in every byte of the width;
 abbrev pub Ones : Type 0
-Ones = (s : State) (o l : ℕ) → busy s ≡ true → readOf s o l ≡ readReply o l (shownValue (λ (i j : ℕ). 1) o l)
+Ones = (s : State) → busy s ≡ true → ((o l : ℕ) → readOf s o l ≡ readReply o l (shownValue (λ (i j : ℕ). 1) o l)) × ((i w : ℕ) → portValue s i w ≡ numberOf (8 * w) (λ (n : ℕ). 1))
 
+-- a guest write changes nothing, through the port pair neither, but for the latch;
 abbrev pub Dropped : Type 0
-Dropped = (s : State) (o l v : ℕ) → busy s ≡ true → writeOf s o l v .state ≡ s
+Dropped = (s : State) → busy s ≡ true → ((o l v : ℕ) → writeOf s o l v .state ≡ s) × ((p w v : ℕ) → atLatch p w ≡ false → portWriteOf s p w v .state ≡ s)
 
--- A write that starts a function reset changes no held bit.
+-- nothing is claimed.
+abbrev pub Unclaimed : Type 0
+Unclaimed = (s : State) (a : ℕ) → busy s ≡ true → (memoryClaimOf s a ≡ unclaimed) × (ioClaimOf s a ≡ unclaimed)
+
+-- 7. A write that starts a function reset changes no held bit.
 abbrev pub Started : Type 0
 Started = (s : State) (o l v i j : ℕ) → badOffset o ≡ false → starts o l v ≡ true → i < 256 → j < 8 → bit (byte (writeOf s o l v .state) i) j ≡ bit (byte s i) j
 
-abbrev pub Unclaimed : Type 0
-Unclaimed = (s : State) (a : ℕ) → busy s ≡ true → (memoryClaimOf s a ≡ unclaimed) × (ioClaimOf s a ≡ unclaimed)
+-- At the end signal F bits hold their defaults, the bit that starts a reset is 0, every other bit stays, and the state is not busy.
+abbrev pub Ended : Type 0
+Ended = (s : State) (i j : ℕ) → busy s ≡ true → i < 256 → j < 8 → (busy (endOf s) ≡ false) × (bit (byte (endOf s) i) j ≡ (if hasF (classOf i j) then bit (defaultAt i) j else if sameClass (classOf i j) resetStart then 0 else bit (byte s i) j))
+
+-- When not busy it changes nothing.
+abbrev pub Unended : Type 0
+Unended = (s : State) → busy s ≡ false → endOf s ≡ s
 
 -- ---- for a reader's eye: what a guest reads back after any run
 
@@ -78,10 +90,10 @@ Read-back-2C = (es : List Event) → busy (run es) ≡ false → readOf (run es)
 abbrev pub Read-back-2E : Type 0
 Read-back-2E = (es : List Event) → busy (run es) ≡ false → readOf (run es) SVID2 12 ≡ ok (lockedWord sid2 SID2 es * 2 ^ 16)
 
--- what a driver polls for: AFCTL reads FF while busy, and 0 otherwise
-abbrev pub Poll : Type 0
-Poll = (es : List Event) → readOf (run es) AFCTL 1 ≡ ok (if busy (run es) then 0xFF else 0)
-
 -- at E8: bit 15 is the lock, whatever the other bits are
 abbrev pub Read-back-E8 : Type 0
 Read-back-E8 = (es : List Event) → busy (run es) ≡ false → (v : ℕ) × ((readOf (run es) SWSCI 3 ≡ ok v) × (bit v 15 ≡ overDefault (firstWrite swsci15 es) (SWSCI + 1) 7))
+
+-- what a driver polls for: AFCTL reads FF while busy, and 0 otherwise
+abbrev pub Poll : Type 0
+Poll = (es : List Event) → readOf (run es) AFCTL 1 ≡ ok (if busy (run es) then 0xFF else 0)

@@ -1,9 +1,9 @@
 -- The history of a bit, from the list of events alone: no state is asked.
 use mathlib.Core.List.{List, [], _∷_}
-use mathlib.Core.Bool.{Bool, true, false, not}
+use mathlib.Core.Bool.{Bool, true, false}
 use Prim.Native.Nat.{ℕ, _-_}
 use Rattle.bits.specs.Bits.{bit}
-use Rattle.bits.specs.Choice.{if_then_else_, _and_, _or_, _is_, _<?_}
+use Rattle.bits.specs.Choice.{if_then_else_, _or_}
 use Rattle.map.specs.Class.{Field, isHost}
 use Rattle.map.specs.Map.{classOf, defaultAt}
 use Rattle.rules.specs.Past as P

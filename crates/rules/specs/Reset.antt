@@ -1,5 +1,4 @@
 -- The end of a function reset ('How a bit behaves'), which the host signals.
-use mathlib.Core.Bool.{Bool}
 use Prim.Native.Nat.{ℕ}
 use Rattle.bits.specs.Bits.{bit, byteOf}
 use Rattle.bits.specs.Choice.{if_then_else_}

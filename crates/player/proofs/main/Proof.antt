@@ -28,8 +28,11 @@ in-buffer-requires c κs = search needs
 out-buffer-requires : tie.Need-out-buffer-requires Inv-loop μ-loop
 out-buffer-requires c κs = search needs
 
+fresh-flags-requires : tie.Need-fresh-flags-requires Inv-loop μ-loop
+fresh-flags-requires c κs = search needs
+
 loop-holds : tie.Need-loop-holds Inv-loop μ-loop
-loop-holds c = (omega arith, sym (c .before .in-buffer .ensures), sym (c .out-buffer .ensures))
+loop-holds c = (omega arith, sym (c .before .before .in-buffer .ensures), sym (c .before .out-buffer .ensures))
 
 slice-aggregate-turn : tie.Need-slice-aggregate-turn Inv-loop μ-loop
 slice-aggregate-turn c = search needs
@@ -66,6 +69,7 @@ main-spec =
     all-defaults-requires
     in-buffer-requires
     out-buffer-requires
+    fresh-flags-requires
     loop-holds
     slice-aggregate-turn
     slice-aggregate-turn-2
