@@ -10,8 +10,8 @@ use Rattle.bits.specs.Bits.{bit, numberOf, byteOf}
 use Rattle.bits.specs.Choice.{pick, both, either, allBelow}
 use Rattle.bits.proofs.Laws.{number-ext, number-none, number-split}
 use Rattle.bits.proofs.Below.{below, both-left, both-right, is-true, is-false}
-use Rattle.answer.specs.Refusals.{ok, WIDTH, NOT-OURS, OTHER-FUNCTION}
-use Rattle.map.specs.Registers.{PCICMD2, CAPPOINT, CAPL, SVID2, SID2, AFCTL, SWSCI}
+use Rattle.answer.specs.Refusals.{ok}
+use Rattle.map.specs.Registers.{CAPPOINT, CAPL, SVID2, SID2, AFCTL, SWSCI}
 use Rattle.map.specs.Class.{Field, svid2, sid2, swsci15, once, computed, stores, isHost, sameClass}
 use Rattle.map.specs.Map.{rows, rowAt, classOf, defaults, defaultAt}
 use Rattle.map.proofs.Classes.{same-once, not-computed}
@@ -21,10 +21,9 @@ use Rattle.rules.specs.Guest.{writtenOf, stepOf, writeOf}
 use Rattle.rules.specs.Read.{pointer, shownBit, readBit, readValue, readOf}
 use Rattle.rules.specs.Host.{notHost, hostStepOf, hostOf}
 use Rattle.rules.specs.Reset.{reset, endedBit, endedOf, endOf}
-use Rattle.rules.specs.Claims.{unclaimed, memoryClaimOf, ioClaimOf}
-use Rattle.rules.specs.Ports.{badWidth, notOurs, atLatch, otherFunction, latched, portValue, portWriteOf}
+use Rattle.rules.specs.Ports.{badWidth, notOurs, atLatch, otherFunction, latched, portWriteOf}
 use Rattle.rules.specs.Events.{Event, read, write, port-read, port-write, host-update, end-signal, platform-reset, happens, run}
-use Rattle.rules.specs.Demand3.{Write-once, Read-only, Computed, Aperture, Refused, Reads, Busy, Ones, Dropped, Unclaimed, Started, Ended, Unended, Poll, lockedWord, Read-back-2C, Read-back-2E, Read-back-E8}
+use Rattle.rules.specs.Demand3.{Write-once, Read-only, Computed, Aperture, Refused, Reads, Busy, Started, Ended, Poll, lockedWord, Read-back-2C, Read-back-2E, Read-back-E8}
 use Rattle.rules.specs.History.{Seen, firstWrite, overDefault}
 use Rattle.rules.proofs.EachBit.{bit-after, bit-ended, write-state, each-bit-read}
 use Rattle.rules.proofs.Once.{once-history}
@@ -85,25 +84,6 @@ reads-change-nothing s a b = (refl, refl)
 pub busy-is : Busy
 busy-is es = ap (λ (x : Seen). x .busy) (seen-run es)
 
-pub reads-ones : Ones
-unfolding readOf readValue portValue readBit
-reads-ones s e = (λ o l. rw e, λ i w. rw e)
-
--- whether it is refused or not
-left : (a : Bool) (s : State) → pick a s s ≡ s
-left true s = refl
-left false s = refl
-
-pub drops-writes : Dropped
-unfolding stepOf portWriteOf
-drops-writes s e = (λ o l v. write-state s o l v ∙ rw e (left (not (either (badOffset o) (badLanes l))) s), λ p w v n. rw (e, n) (go (badWidth w) (notOurs (s .latch) p w) (otherFunction (s .latch))))
-  where
-    go : (a b c : Bool) → pick a (refused WIDTH s) (pick b (refused NOT-OURS s) (pick c (refused OTHER-FUNCTION s) (done s))) .state ≡ s
-    go true b c = refl
-    go false true c = refl
-    go false false true = refl
-    go false false false = refl
-
 pub start-changes-nothing : Started
 unfolding stepOf
 start-changes-nothing s o l v i j good t h k = rw (write-state s o l v) (go (not (either (badOffset o) (badLanes l))) (busy s))
@@ -116,18 +96,6 @@ start-changes-nothing s o l v i j good t h k = rw (write-state s o l v) (go (not
 pub end-is : Ended
 unfolding endOf endedOf endedBit reset
 end-is s i j e h k = rw e (refl, bit-ended s i j h k)
-
-pub no-end : Unended
-unfolding endOf
-no-end s e = rw e
-
-pub claims-nothing : Unclaimed
-unfolding memoryClaimOf ioClaimOf
-claims-nothing s a e = (rw e (go (eqb (bit (byte s PCICMD2) 1) 0)), rw e (go (eqb (bit (byte s PCICMD2) 0) 0)))
-  where
-    go : (a : Bool) → pick a unclaimed unclaimed ≡ unclaimed
-    go true = refl
-    go false = refl
 
 -- ---- what a guest reads back
 

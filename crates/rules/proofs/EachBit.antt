@@ -88,7 +88,7 @@ each-bit-updated s o m v n h = rw (host-state s o m v) (go (not (either (ltb 255
 
 pub read<2 : (s : State) (i j : ℕ) → readBit s i j < 2
 unfolding readBit shownBit
-read<2 s i j = pick-has (λ (x : ℕ). x < 2) _ 1 _ (omega arith) (pick-has (λ (x : ℕ). x < 2) (sameClass (classOf i j) computed) (bit (pointer s) j) (bit (byte s i) j) (bit<2 (pointer s) j) (bit<2 (byte s i) j))
+read<2 s i j = pick-has (λ (x : ℕ). x < 2) (busy s) 1 _ (omega arith) (pick-has (λ (x : ℕ). x < 2) (sameClass (classOf i j) computed) (bit (pointer s) j) (bit (byte s i) j) (bit<2 (pointer s) j) (bit<2 (byte s i) j))
 
 -- bit n of a read's value: that of the byte in its lane where the lane is enabled
 pub each-bit-read : (s : State) (o l n : ℕ) → n < 32 → bit (readValue s o l) n ≡ pick (eqb (bit l (n / 8)) 1) (readBit s (o + n / 8) (n % 8)) undriven

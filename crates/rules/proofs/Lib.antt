@@ -1,3 +1,4 @@
+pub mod Busy
 pub mod Access
 pub mod EachBit
 pub mod NoLanes
