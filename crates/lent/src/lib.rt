@@ -18,7 +18,7 @@ pub extern "C" fn twin_platform_reset(s: &mut State)
     *s = twin::fresh();
 }
 
-// A guest write; the function reset that it may start is performed within it. The result is the refusal's number, 0 where it is accepted.
+// A guest write; it may start a function reset, and while one is under way it is dropped. The result is the refusal's number, 0 where it is accepted.
 // The record's bytes are lent on to the leaf, so nothing is copied.
 #[no_mangle]
 pub extern "C" fn twin_write(s: &mut State, offset: u32, lanes: u32, value: u32) -> u32
