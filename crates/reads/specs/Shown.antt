@@ -20,8 +20,6 @@ unfoldable pub shownDword : List ℕ → ℕ → ℕ
 shownDword m o = joined (shownByte m o) (shownByte m (o + 1)) (shownByte m (o + 2)) (shownByte m (o + 3))
 
 -- only the computed byte differs from those that are held
--- ---- as the bytes are shown while no function reset is under way
-
 unfoldable pub shownBytes : List ℕ → List ℕ
 shownBytes m = set m CAPPOINT (shownByte m CAPPOINT)
 
