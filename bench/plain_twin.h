@@ -193,6 +193,9 @@ static uint8_t shown(const struct state *s, unsigned at)
     return s->bytes[at];
 }
 
+// What a lane that isn't enabled reads.
+enum { UNDRIVEN = 0xFF };
+
 static int guest_read(const struct state *s, unsigned offset, unsigned lanes, uint32_t *value)
 {
     if (offset > 255 || offset % 4 != 0)
@@ -200,9 +203,10 @@ static int guest_read(const struct state *s, unsigned offset, unsigned lanes, ui
     if (lanes > 15)
         return LANES;
     uint32_t read = 0;
-    for (int lane = 0; lane < 4; lane++)
-        if (lanes >> lane & 1)
-            read |= (uint32_t)shown(s, offset + lane) << 8 * lane;
+    for (int lane = 0; lane < 4; lane++) {
+        uint8_t byte = lanes >> lane & 1 ? shown(s, offset + lane) : UNDRIVEN;
+        read |= (uint32_t)byte << 8 * lane;
+    }
     *value = read;
     return ACCEPTED;
 }

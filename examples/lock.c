@@ -6,9 +6,12 @@
 
 enum { PCICMD2 = 0x04, SVID2 = 0x2C, AFCTL = 0xA8 };
 
+// The low word of a dword; the lanes above it, which aren't enabled, read FF.
+static unsigned read_word(const twin_state *s, uint32_t offset) { return (uint16_t)twin_guest_read(s, offset, 0x3).value; }
+
 static void show(const char *when, const twin_state *s)
 {
-    printf("%-16s  SVID2 %04X  PCICMD2 %04X\n", when, (unsigned)twin_guest_read(s, SVID2, 0x3).value, (unsigned)twin_guest_read(s, PCICMD2, 0x3).value);
+    printf("%-16s  SVID2 %04X  PCICMD2 %04X\n", when, read_word(s, SVID2), read_word(s, PCICMD2));
 }
 
 int main(void)

@@ -26,7 +26,10 @@ static void let_device_work(bench *b)
 
 enum { MOST_POLLS = 5 };
 
-static unsigned read_word(const bench *b, uint32_t offset) { return (unsigned)twin_guest_read(&b->s, offset, 0x3).value; }
+// Lanes that aren't enabled read FF, so that each read takes the low word or byte alone.
+static unsigned read_word(const bench *b, uint32_t offset) { return (uint16_t)twin_guest_read(&b->s, offset, 0x3).value; }
+
+static unsigned read_byte(const bench *b, uint32_t offset) { return (uint8_t)twin_guest_read(&b->s, offset, 0x1).value; }
 
 static void show(const char *when, const bench *b)
 {
@@ -38,7 +41,7 @@ static bool poll_until_over(bench *b)
 {
     for (int i = 1; i <= MOST_POLLS; i++) {
         let_device_work(b);
-        unsigned control = (unsigned)twin_guest_read(&b->s, AFCTL, 0x1).value;
+        unsigned control = read_byte(b, AFCTL);
         printf("poll %d          AFCTL %02X\n", i, control);
         if (control == 0)
             return true;

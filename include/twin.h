@@ -37,7 +37,7 @@ typedef struct twin_closed {
 // busy: 0 where no function reset runs, any other number where one does. A guest write of 1 to AFCTL bit 0 starts it: busy becomes 1, and nothing else changes.
 // The host's end signal ends it: the paper's F bits take their defaults, AFCTL bit 0 and busy become 0, and all else stays, closed fields among it.
 // A platform reset ends it too. Nothing else changes busy. While busy:
-// - guest reads give FF in enabled lanes and 00 in the others, and through the port pair FF in each byte of the width;
+// - guest reads give FFFFFFFF, whatever the lanes, and through the port pair FF in each byte of the width and 0 above it;
 // - guest writes are answered as accepted and change nothing, through the port pair too;
 // - no window claims anything;
 // - host updates and the port latch work;
@@ -124,7 +124,7 @@ void twin_platform_reset(twin_state *s);
 uint32_t twin_write(twin_state *s, uint32_t offset, uint32_t lanes, uint32_t value);
 uint32_t twin_write_by_value(twin_state *s, uint32_t offset, uint32_t lanes, uint32_t value);
 
-// A guest read: each enabled byte in its place, FF while busy, and 00 in the others.
+// A guest read: each enabled byte in its place, FF while busy, and FF in the lanes that aren't enabled; lanes 0 reads FFFFFFFF.
 uint64_t twin_read(const twin_state *s, uint32_t offset, uint32_t lanes);
 
 // The operation of number op (enum twin_operation); arguments that it has no use for have no say.
@@ -198,7 +198,7 @@ static inline uint64_t twin_look(const twin_state *s, uint32_t op, uint32_t a, u
     return twin_do(&copy, op, a, b, 0);
 }
 
-// A guest read, of ones while busy; refusals 5 and 6.
+// A guest read, of ones while busy and in the lanes that aren't enabled, so that a caller that wants a word or a byte masks or casts; refusals 5 and 6.
 static inline twin_reply twin_guest_read(const twin_state *s, uint32_t offset, uint32_t lanes)
 {
     return twin_reply_of(twin_read(s, offset, lanes));
@@ -228,7 +228,7 @@ static inline uint32_t twin_port_write(twin_state *s, uint16_t port, uint32_t wi
     return twin_reply_of(twin_do(s, TWIN_DO_PORT_WRITE, port, width, value)).number;
 }
 
-// A read of width bytes from a port, data of ones while busy; refusals 2, 3 and 4.
+// A read of width bytes from a port, 0 above the width, data of ones while busy; refusals 2, 3 and 4.
 static inline twin_reply twin_port_read(const twin_state *s, uint16_t port, uint32_t width)
 {
     return twin_reply_of(twin_look(s, TWIN_DO_PORT_READ, port, width));

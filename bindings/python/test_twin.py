@@ -27,11 +27,11 @@ class Paper(unittest.TestCase):
                 ([(0x10, 0xF, ALL)], 0x10, 0xF, 0xFFC00004),
                 ([(0x18, 0xF, ALL)], 0x18, 0xF, 0xF000000C),
                 ([(0x18, 0xF, ALL), (0x60, 0x4, 0x00060000)], 0x18, 0xF, 0xE000000C),
-                ([(0x60, 0x4, 0x00F40000)], 0x60, 0x4, 0x00F20000),
+                ([(0x60, 0x4, 0x00F40000)], 0x60, 0x4, 0xFFF2FFFF),
                 ([(0x20, 0xF, ALL)], 0x20, 0xF, 0x0000FFC1),
                 ([(0x7C, 0x8, 0x01000000)], 0x34, 0xF, 0x000000D0),
-                ([(0xD4, 0x1, 1)], 0xD4, 0x1, 0),
-                ([(0xD4, 0x1, 1), (0xD4, 0x1, 3)], 0xD4, 0x1, 3),
+                ([(0xD4, 0x1, 1)], 0xD4, 0x1, 0xFFFFFF00),
+                ([(0xD4, 0x1, 1), (0xD4, 0x1, 3)], 0xD4, 0x1, 0xFFFFFF03),
                 ([(0xE8, 0x2, 0), (0xE8, 0xF, 0x8001)], 0xE8, 0xF, 1)]:
             with self.subTest(writes=writes):
                 self.assertEqual(self.after(*writes).read(offset, lanes), value)
@@ -40,7 +40,27 @@ class Paper(unittest.TestCase):
         t = self.after((0x2C, 0x3, 0x1234), (0xA8, 0x1, 1))
         t.end_signal()
         t.write(0x2C, 0x3, 0xFFFF)
-        self.assertEqual(t.read(0x2C, 0x3), 0x1234)
+        self.assertEqual(t.read(0x2C, 0x3), 0xFFFF1234)
+
+    def test_lanes_that_are_not_enabled_read_as_ones(self):
+        idle = self.after((0xFC, 0xF, 0x44332211))
+        busy = Twin(idle.record()[:263] + b"\1")
+        for offset, dword in [(0x00, "86805201"), (0x04, "00009000"), (0x0C, "00000000"), (0x34, "90000000"), (0xFC, "11223344")]:
+            for lanes in range(16):
+                enabled = [lanes >> lane & 1 for lane in range(4)]
+                wanted = bytes(byte if on else 0xFF for byte, on in zip(bytes.fromhex(dword), enabled))
+                with self.subTest(offset=offset, lanes=lanes):
+                    self.assertEqual(idle.read(offset, lanes), int.from_bytes(wanted, "little"))
+                    self.assertEqual(busy.read(offset, lanes), ALL)
+        self.assertEqual([idle.read(0xFC, lanes) for lanes in (0x0, 0x2, 0x9)], [ALL, 0xFFFF22FF, 0x44FFFF11])
+        for t in [idle, busy]:
+            before = t.record()
+            for lanes in range(16):
+                self.refused(Refusal.OFFSET, t.read, 0x2D, lanes)
+                self.refused(Refusal.LANES, t.read, 0x2C, 0x10 | lanes)
+                self.assertEqual(t._do(twin._READ, 0x2D, lanes), Refusal.OFFSET << 48)  # 0 beside the number
+                self.assertEqual(t._do(twin._READ, 0x2C, 0x10 | lanes), Refusal.LANES << 48)
+            self.assertEqual(t.record(), before)
 
     def test_layout(self):
         t = self.after((0x2C, 0x8, 0xAB000000), (0xFC, 0xF, 0x44332211), (0xA8, 0x1, 1))
@@ -71,6 +91,16 @@ class Paper(unittest.TestCase):
         self.refused(Refusal.WIDTH, t.port_read, 0xCFC, 3)
         t.port_write(0xCF8, 4, 0x80000000)
         self.refused(Refusal.OTHER_FUNCTION, t.port_write, 0xCFC, 1, 0)
+
+    def test_port_reads_are_0_above_the_width(self):
+        idle = self.after((0xFC, 0xF, 0x44332211))
+        idle.port_write(0xCF8, 4, 0x800010FC)
+        busy = Twin(idle.record()[:263] + b"\1")
+        for port, width, value, ones in [
+                (0xCFC, 1, 0x11, 0xFF), (0xCFD, 1, 0x22, 0xFF), (0xCFE, 1, 0x33, 0xFF), (0xCFF, 1, 0x44, 0xFF),
+                (0xCFC, 2, 0x2211, 0xFFFF), (0xCFD, 2, 0x3322, 0xFFFF), (0xCFE, 2, 0x4433, 0xFFFF), (0xCFC, 4, 0x44332211, ALL)]:
+            with self.subTest(port=port, width=width):
+                self.assertEqual((idle.port_read(port, width), busy.port_read(port, width)), (value, ones))
 
     def test_claims(self):
         t = self.after((0x04, 0x1, 0x03), (0x10, 0xF, 0x00400000), (0x14, 0xF, 0x12),
@@ -133,7 +163,7 @@ class Paper(unittest.TestCase):
     def test_a_busy_function_reads_ones_and_drops_writes(self):
         for t in self.busy_ones():
             before = t.record()
-            self.assertEqual([t.read(0x00, 0xF), t.read(0xA8, 0x5), t.read(0xA8, 0x0)], [ALL, 0x00FF00FF, 0])
+            self.assertEqual([t.read(0x00, 0xF), t.read(0xA8, 0x5), t.read(0xA8, 0x0)], [ALL, ALL, ALL])
             self.assertEqual(t.image(), b"\xff" * 256)
             self.refused(Refusal.ENDLESS, t.walk, 0x13, count=48)
             self.assertEqual(t.walk(0xFF), Found(0xFC, 1))

@@ -7,7 +7,7 @@
     t.busy                           # True: every byte reads FF
     t.end_signal()                   # ends it
     t.write(0x2C, 0x3, 0xFFFF)       # accepted, and changes nothing
-    hex(t.read(0x2C, 0x3))           # '0x1234'
+    hex(t.read(0x2C, 0x3))           # '0xffff1234': lanes 2 and 3 aren't enabled
 
 A refused access changes nothing and raises Refused, which has the paper's number. A number that does not fit an entry's type raises ValueError before the library sees it.
 
@@ -144,7 +144,7 @@ def _found(result):
 class Twin:
     """The function, fresh, or over a record of any making. `state` is the record itself.
 
-    A write of 1 to AFCTL bit 0 starts a function reset, and end_signal() or a platform reset ends it. Between the two the function is busy: guest reads give FF in enabled lanes, guest writes are accepted and dropped, both through the port pair too, and nothing is claimed. Host updates and the port latch work, and refusals are the same.
+    A write of 1 to AFCTL bit 0 starts a function reset, and end_signal() or a platform reset ends it. Between the two the function is busy: guest reads give ones, guest writes are accepted and dropped, both through the port pair too, and nothing is claimed. Host updates and the port latch work, and refusals are the same.
     """
 
     def __init__(self, record=None):
@@ -174,7 +174,7 @@ class Twin:
         _accepted(_lib.twin_write(ctypes.byref(self.state), offset, lanes, value))
 
     def read(self, offset, lanes):
-        """A guest read: each enabled byte in its place, FF while busy, and 00 in the others; refusals 5 and 6."""
+        """A guest read: each enabled byte in its place, FF while busy, and FF in the lanes that aren't enabled; lanes 0 reads FFFFFFFF. A caller that wants a word or a byte masks. Refusals 5 and 6."""
         _fits(32, offset, lanes)
         return _value(_lib.twin_read(ctypes.byref(self.state), offset, lanes))
 
@@ -200,7 +200,7 @@ class Twin:
         _value(self._do(_PORT_WRITE, port, width, value))
 
     def port_read(self, port, width):
-        """A read of width bytes from a port, data of ones while busy; refusals 2, 3 and 4."""
+        """A read of width bytes from a port, 0 above the width, data of ones while busy; refusals 2, 3 and 4."""
         _fits(16, port)
         _fits(32, width)
         return _value(self._do(_PORT_READ, port, width))

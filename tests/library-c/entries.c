@@ -28,6 +28,8 @@ static twin_state fresh(void)
 
 static uint32_t read_dword(const twin_state *s, uint32_t offset) { return twin_guest_read(s, offset, 0xF).value; }
 
+static int same(const twin_state *a, const twin_state *b) { return memcmp(a, b, sizeof *a) == 0; }
+
 // Where the library finds each part of the record, seen by what it does to its bytes.
 static void layout(void)
 {
@@ -88,13 +90,44 @@ static void access_examples(void)
 
     s = fresh();
     twin_guest_write(&s, 0x60, 0x4, 0x00F40000);
-    CHECK(twin_guest_read(&s, 0x60, 0x4).value, 0x00F20000);
+    CHECK(twin_guest_read(&s, 0x60, 0x4).value, 0xFFF2FFFF);
     twin_guest_write(&s, 0x2C, 0x3, 0x1234);
     twin_guest_write(&s, 0xA8, 0x1, 1);
     twin_end_signal(&s);
     twin_guest_write(&s, 0x2C, 0x3, 0xFFFF);
-    CHECK(twin_guest_read(&s, 0x2C, 0x3).value, 0x1234);
-    CHECK(twin_guest_read(&s, 0x00, 0x0).value, 0);
+    CHECK(twin_guest_read(&s, 0x2C, 0x3).value, 0xFFFF1234);
+}
+
+// A dword as it is read with these lanes: FF in those that aren't enabled.
+static uint32_t in_lanes(uint32_t dword, uint32_t lanes)
+{
+    for (int lane = 0; lane < 4; lane++)
+        if ((lanes >> lane & 1) == 0)
+            dword |= (uint32_t)0xFF << 8 * lane;
+    return dword;
+}
+
+// Every lanes, in every way to read.
+static void read_lanes(void)
+{
+    static const struct {
+        uint32_t offset, dword;
+    } rows[] = { { 0x00, 0x01528086 }, { 0x04, 0x00900000 }, { 0x0C, 0x00000000 }, { 0x34, 0x00000090 }, { 0xFC, 0x44332211 } };
+    twin_state s = fresh();
+    twin_guest_write(&s, 0xFC, 0xF, 0x44332211);
+    const twin_state before = s;
+    for (size_t i = 0; i < sizeof rows / sizeof *rows; i++)
+        for (uint32_t lanes = 0; lanes < 16; lanes++) {
+            uint32_t wanted = in_lanes(rows[i].dword, lanes);
+            CHECK(twin_read(&s, rows[i].offset, lanes), wanted);
+            CHECK(twin_do(&s, TWIN_DO_READ, rows[i].offset, lanes, 0), wanted);
+            CHECK(twin_guest_read(&s, rows[i].offset, lanes).number, 0);
+            CHECK(twin_guest_read(&s, rows[i].offset, lanes).value, wanted);
+        }
+    CHECK(twin_guest_read(&s, 0xFC, 0x0).value, 0xFFFFFFFF);
+    CHECK(twin_guest_read(&s, 0xFC, 0x2).value, 0xFFFF22FF);
+    CHECK(twin_guest_read(&s, 0xFC, 0x9).value, 0x44FFFF11);
+    CHECK(same(&s, &before), 1);
 }
 
 // The three ways to write.
@@ -147,6 +180,32 @@ static void ports(void)
     CHECK(read_dword(&s, 0x2C), 0x56780000);
     CHECK(s.closed.svid2, 0);
     CHECK(s.closed.sid2, 1);
+}
+
+// Every width at every place of the dword, idle and busy: 0 above the width, and refused where it passes the dword's end.
+static void port_widths(uint8_t busy)
+{
+    static const struct {
+        uint16_t port;
+        uint32_t width, number, idle, busy;
+    } rows[] = {
+        { 0xCFC, 1, 0, 0x11, 0xFF }, { 0xCFD, 1, 0, 0x22, 0xFF }, { 0xCFE, 1, 0, 0x33, 0xFF }, { 0xCFF, 1, 0, 0x44, 0xFF },
+        { 0xCFC, 2, 0, 0x2211, 0xFFFF }, { 0xCFD, 2, 0, 0x3322, 0xFFFF }, { 0xCFE, 2, 0, 0x4433, 0xFFFF }, { 0xCFF, 2, TWIN_NOT_OURS, 0, 0 },
+        { 0xCFC, 4, 0, 0x44332211, 0xFFFFFFFF }, { 0xCFD, 4, TWIN_NOT_OURS, 0, 0 }, { 0xCFE, 4, TWIN_NOT_OURS, 0, 0 }, { 0xCFF, 4, TWIN_NOT_OURS, 0, 0 },
+    };
+    twin_state s = fresh();
+    twin_guest_write(&s, 0xFC, 0xF, 0x44332211);
+    twin_port_write(&s, 0xCF8, 4, 0x800010FC);
+    s.busy = busy;
+    const twin_state before = s;
+    for (size_t i = 0; i < sizeof rows / sizeof *rows; i++) {
+        uint32_t wanted = busy ? rows[i].busy : rows[i].idle;
+        CHECK(twin_port_read(&s, rows[i].port, rows[i].width).number, rows[i].number);
+        CHECK(twin_port_read(&s, rows[i].port, rows[i].width).value, wanted);
+        CHECK(twin_do(&s, TWIN_DO_PORT_READ, rows[i].port, rows[i].width, 0), (uint64_t)rows[i].number << 48 | wanted);
+    }
+    CHECK(twin_port_read(&s, 0xCF8, 4).value, 0x800010FC);
+    CHECK(same(&s, &before), 1);
 }
 
 static void claims(void)
@@ -237,8 +296,6 @@ static void walks(void)
 }
 
 // ---- the function reset
-
-static int same(const twin_state *a, const twin_state *b) { return memcmp(a, b, sizeof *a) == 0; }
 
 // Every bit is 1 that a guest or the host can make so, but AFCTL's; every field is closed, and the latch names AFCTL.
 static twin_state used(void)
@@ -347,7 +404,7 @@ static void ends(void)
     CHECK(same(&s, &none), 1);
 }
 
-// Reads of a busy function: ones, whatever it holds.
+// Reads of a busy function: ones in every lane, whatever it holds and whatever lanes are enabled.
 static void busy_reads(uint8_t busy)
 {
     twin_state s = used_and_busy(busy);
@@ -355,22 +412,14 @@ static void busy_reads(uint8_t busy)
     const twin_state before = s;
     for (uint32_t offset = 0; offset < 256; offset += 4)
         for (uint32_t lanes = 0; lanes < 16; lanes++) {
-            uint32_t ones = 0;
-            for (int lane = 0; lane < 4; lane++)
-                if (lanes >> lane & 1)
-                    ones |= (uint32_t)0xFF << 8 * lane;
-            CHECK(twin_read(&s, offset, lanes), ones);
-            CHECK(twin_do(&s, TWIN_DO_READ, offset, lanes, 0), ones);
+            CHECK(twin_read(&s, offset, lanes), 0xFFFFFFFF);
+            CHECK(twin_do(&s, TWIN_DO_READ, offset, lanes, 0), 0xFFFFFFFF);
         }
     CHECK(twin_guest_read(&s, 0xA8, 0x1).number, 0);
-    CHECK(twin_guest_read(&s, 0xA8, 0x1).value, 0xFF);
+    CHECK(twin_guest_read(&s, 0xA8, 0x1).value, 0xFFFFFFFF);
     CHECK(twin_port_read(&s, 0xCFC, 4).value, 0xFFFFFFFF);
     CHECK(twin_port_read(&s, 0xCFC, 2).value, 0xFFFF);
-    CHECK(twin_port_read(&s, 0xCFE, 2).value, 0xFFFF);
-    CHECK(twin_port_read(&s, 0xCFC, 1).value, 0xFF);
     CHECK(twin_port_read(&s, 0xCFF, 1).value, 0xFF);
-    CHECK(twin_port_read(&s, 0xCFF, 1).number, 0);
-    CHECK(twin_do(&s, TWIN_DO_PORT_READ, 0xCFD, 2, 0), 0xFFFF);
     CHECK(twin_port_read(&s, 0xCF8, 4).value, 0x800010A8);
 
     uint8_t image[256], ones[256];
@@ -445,8 +494,8 @@ static void busy_host(uint8_t busy)
     CHECK(same(&s, &wanted), 1);
     CHECK(twin_port_read(&s, 0xCF8, 4).value, 0x80FFFFFC);
     twin_end_signal(&s);
-    CHECK(twin_guest_read(&s, 0x08, 0x1).value, 0xF5);
-    CHECK(twin_guest_read(&s, 0x5C, 0x1).value, 0x42);
+    CHECK(twin_guest_read(&s, 0x08, 0x1).value, 0xFFFFFFF5);
+    CHECK(twin_guest_read(&s, 0x5C, 0x1).value, 0xFFFFFF42);
     CHECK(s.latch, 0x80FFFFFC);
 }
 
@@ -491,6 +540,7 @@ static void refusals(uint8_t busy)
     } rows[] = {
         { TWIN_DO_WRITE, 0x01, 0xF, 0, 5 }, { TWIN_DO_WRITE, 0x100, 0x10, 0, 5 }, { TWIN_DO_WRITE, 0x2C, 0x10, 0, 6 },
         { TWIN_DO_READ, 0x02, 0xF, 0, 5 }, { TWIN_DO_READ, 0xFFFFFFFC, 0xF, 0, 5 }, { TWIN_DO_READ, 0x00, 0xFFFFFFFF, 0, 6 },
+        { TWIN_DO_READ, 0x03, 0x0, 0, 5 }, { TWIN_DO_READ, 0x100, 0x0, 0, 5 }, { TWIN_DO_READ, 0x00, 0x10, 0, 6 },
         { TWIN_DO_HOST_UPDATE, 0x100, 0xFF, 0, 5 }, { TWIN_DO_HOST_UPDATE, 0x2C, 0x01, 0, 7 }, { TWIN_DO_HOST_UPDATE, 0x34, 0x80, 0, 7 },
         { TWIN_DO_HOST_UPDATE, 0x100, 0x100, 0, 9 }, { TWIN_DO_HOST_UPDATE, 0x02, 0xFF, 0x100, 9 },
         { TWIN_DO_PORT_WRITE, 0xCFC, 3, 0, 2 }, { TWIN_DO_PORT_WRITE, 0xCF8, 2, 0, 3 }, { TWIN_DO_PORT_WRITE, 0x10CF8, 4, 0, 9 },
@@ -509,7 +559,15 @@ static void refusals(uint8_t busy)
     CHECK(twin_write(&s, 0x2C, 0x10, 0), TWIN_LANES);
     CHECK(twin_write_by_value(&s, 0x2D, 0xF, 0), TWIN_OFFSET);
     CHECK(twin_write_by_value(&s, 0x2C, 0x10, 0), TWIN_LANES);
-    CHECK(twin_read(&s, 0x2D, 0xF), (uint64_t)TWIN_OFFSET << 48);
+    for (uint32_t lanes = 0; lanes < 16; lanes++) {
+        CHECK(twin_read(&s, 0x2D, lanes), (uint64_t)TWIN_OFFSET << 48);
+        CHECK(twin_read(&s, 0x100, lanes), (uint64_t)TWIN_OFFSET << 48);
+        CHECK(twin_read(&s, 0x2C, 0x10 | lanes), (uint64_t)TWIN_LANES << 48);
+    }
+    CHECK(twin_guest_read(&s, 0x2D, 0x0).number, TWIN_OFFSET);
+    CHECK(twin_guest_read(&s, 0x2D, 0x0).value, 0);
+    CHECK(twin_guest_read(&s, 0x2C, 0x10).number, TWIN_LANES);
+    CHECK(twin_guest_read(&s, 0x2C, 0x10).value, 0);
     CHECK(same(&s, &before), 1);
 
     twin_port_write(&s, 0xCF8, 4, 0x80001100); // another function
@@ -524,6 +582,7 @@ int main(void)
 {
     layout();
     access_examples();
+    read_lanes();
     three_writes();
     host_updates();
     ports();
@@ -535,11 +594,13 @@ int main(void)
     static const uint8_t busy[] = { 1, 7, 0xFF };
     for (size_t i = 0; i < sizeof busy; i++) {
         busy_reads(busy[i]);
+        port_widths(busy[i]);
         busy_writes(busy[i]);
         busy_host(busy[i]);
         busy_claims(busy[i]);
         refusals(busy[i]);
     }
+    port_widths(0);
     refusals(0);
     printf("%u checks, %u failed\n", checks, failures);
     return failures != 0;

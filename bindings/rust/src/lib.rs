@@ -7,10 +7,10 @@
 //! let mut t = Twin::fresh();
 //! t.write(0x2C, 0x3, 0x1234)?; // SVID2 is written, and closed
 //! t.write(0xA8, 0x1, 0x0001)?; // starts a function reset
-//! assert_eq!(t.read(0x2C, 0x3), Ok(0xFFFF)); // busy: every byte reads FF
+//! assert_eq!(t.read(0x2C, 0x3), Ok(0xFFFFFFFF)); // busy: every byte reads FF
 //! t.end_signal(); // ends it
 //! t.write(0x2C, 0x3, 0xFFFF)?; // accepted, and changes nothing
-//! assert_eq!(t.read(0x2C, 0x3), Ok(0x1234));
+//! assert_eq!(t.read(0x2C, 0x3), Ok(0xFFFF1234)); // lanes 2 and 3 aren't enabled
 //! # Ok::<(), twin::Refusal>(())
 //! ```
 //!
@@ -36,7 +36,7 @@ pub mod raw {
         pub fn twin_write(s: *mut Twin, offset: u32, lanes: u32, value: u32) -> u32;
         /// The same write, over a copy of the record.
         pub fn twin_write_by_value(s: *mut Twin, offset: u32, lanes: u32, value: u32) -> u32;
-        /// A guest read.
+        /// A guest read, of ones in the lanes that aren't enabled.
         pub fn twin_read(s: *const Twin, offset: u32, lanes: u32) -> u64;
         /// The operation of number `op`; refusal 9 for any other number, and
         /// for an argument above its greatest value.
@@ -193,9 +193,9 @@ pub struct Closed {
 ///
 /// A write of 1 to AFCTL bit 0 starts a function reset, and
 /// [`Twin::end_signal`] or a platform reset ends it. Between the two the
-/// function is busy: guest reads give FF in enabled lanes, guest writes are
-/// accepted and dropped, both through the port pair too, and nothing is
-/// claimed. Host updates and the port latch work, and refusals are the same.
+/// function is busy: guest reads give ones, guest writes are accepted and
+/// dropped, both through the port pair too, and nothing is claimed. Host
+/// updates and the port latch work, and refusals are the same.
 #[repr(C)]
 #[derive(Clone, Copy, Debug, PartialEq, Eq, Hash)]
 pub struct Twin {
@@ -261,8 +261,20 @@ impl Twin {
         accepted(unsafe { raw::twin_write(self, offset, lanes, value) }.into())
     }
 
-    /// A guest read: each enabled byte in its place, FF while busy, and 00 in
-    /// the others; refusals 5 and 6.
+    /// A guest read: each enabled byte in its place, FF while busy, and FF in
+    /// the lanes that aren't enabled; refusals 5 and 6. A caller that wants a
+    /// word or a byte masks or casts.
+    ///
+    /// ```
+    /// # use twin::{Refusal, Twin};
+    /// let t = Twin::fresh();
+    /// assert_eq!(t.read(0x00, 0xF), Ok(0x01528086));
+    /// assert_eq!(t.read(0x00, 0x3), Ok(0xFFFF8086));
+    /// assert_eq!(t.read(0x00, 0x3)? as u16, 0x8086);
+    /// assert_eq!(t.read(0x00, 0x0), Ok(0xFFFFFFFF));
+    /// assert_eq!(t.read(0x00, 0x10), Err(Refusal::Lanes));
+    /// # Ok::<(), Refusal>(())
+    /// ```
     pub fn read(&self, offset: u32, lanes: u32) -> Result<u32, Refusal> {
         // SAFETY: the record is whole, aligned, and only read.
         value(unsafe { raw::twin_read(self, offset, lanes) })
@@ -278,11 +290,11 @@ impl Twin {
     /// t.write(0x04, 0x1, 0x07)?;
     /// t.write(0xA8, 0x1, 0x01)?;
     /// assert!(t.is_busy());
-    /// assert_eq!(t.read(0xA8, 0x1), Ok(0xFF));
+    /// assert_eq!(t.read(0xA8, 0x1), Ok(0xFFFFFFFF));
     /// t.end_signal();
     /// assert!(!t.is_busy());
-    /// assert_eq!(t.read(0xA8, 0x1), Ok(0x00));
-    /// assert_eq!(t.read(0x04, 0x1), Ok(0x00));
+    /// assert_eq!(t.read(0xA8, 0x1), Ok(0xFFFFFF00));
+    /// assert_eq!(t.read(0x04, 0x1), Ok(0xFFFFFF00));
     /// # Ok::<(), twin::Refusal>(())
     /// ```
     pub fn end_signal(&mut self) {
@@ -300,7 +312,7 @@ impl Twin {
     /// # use twin::{Refusal, Twin};
     /// let mut t = Twin::fresh();
     /// assert_eq!(t.host_update(0x08, 0xFF, 0x09), Ok(())); // RID2
-    /// assert_eq!(t.read(0x08, 0x1), Ok(0x09));
+    /// assert_eq!(t.read(0x08, 0x1), Ok(0xFFFFFF09));
     /// assert_eq!(t.host_update(0x00, 0x01, 0x01), Err(Refusal::NotHost));
     /// ```
     pub fn host_update(&mut self, offset: u32, mask: u8, value: u8) -> Result<(), Refusal> {
@@ -314,8 +326,8 @@ impl Twin {
         accepted(self.perform(PORT_WRITE, port.into(), width, value) >> 48)
     }
 
-    /// A read of `width` bytes from a port, data of ones while busy; refusals
-    /// 2, 3 and 4.
+    /// A read of `width` bytes from a port, 0 above the width, data of ones
+    /// while busy; refusals 2, 3 and 4.
     ///
     /// ```
     /// # use twin::{Refusal, Twin};

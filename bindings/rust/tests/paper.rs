@@ -70,11 +70,11 @@ fn reads_and_writes() {
             0xF,
             0xE000000C,
         ),
-        (&[(0x60, 0x4, 0x00F40000)], 0x60, 0x4, 0x00F20000),
+        (&[(0x60, 0x4, 0x00F40000)], 0x60, 0x4, 0xFFF2FFFF),
         (&[(0x20, 0xF, all)], 0x20, 0xF, 0x0000FFC1),
         (&[(0x7C, 0x8, 0x01000000)], 0x34, 0xF, 0x000000D0),
-        (&[(0xD4, 0x1, 1)], 0xD4, 0x1, 0),
-        (&[(0xD4, 0x1, 1), (0xD4, 0x1, 3)], 0xD4, 0x1, 3),
+        (&[(0xD4, 0x1, 1)], 0xD4, 0x1, 0xFFFFFF00),
+        (&[(0xD4, 0x1, 1), (0xD4, 0x1, 3)], 0xD4, 0x1, 0xFFFFFF03),
         (&[(0xE8, 0x2, 0), (0xE8, 0xF, 0x8001)], 0xE8, 0xF, 1),
     ];
     for (writes, offset, lanes, value) in rows {
@@ -91,7 +91,50 @@ fn a_lock_holds_through_a_function_reset() {
     let mut t = after(&[(0x2C, 0x3, 0x1234), (0xA8, 0x1, 1)]);
     t.end_signal();
     assert_eq!(t.write(0x2C, 0x3, 0xFFFF), Ok(()));
-    assert_eq!(t.read(0x2C, 0x3), Ok(0x1234));
+    assert_eq!(t.read(0x2C, 0x3), Ok(0xFFFF1234));
+}
+
+/// A dword as it is read with these lanes: FF in those that aren't enabled.
+fn in_lanes(dword: u32, lanes: u32) -> u32 {
+    let mut bytes = dword.to_le_bytes();
+    for (lane, byte) in bytes.iter_mut().enumerate() {
+        if lanes >> lane & 1 == 0 {
+            *byte = 0xFF;
+        }
+    }
+    u32::from_le_bytes(bytes)
+}
+
+/// The same read through the door.
+fn door_read(t: &Twin, offset: u32, lanes: u32) -> u64 {
+    let mut copy = *t;
+    // SAFETY: a whole record, aligned, used here alone.
+    unsafe { raw::twin_do(&mut copy, 2, offset, lanes, 0) }
+}
+
+#[test]
+fn lanes_that_are_not_enabled_read_as_ones() {
+    let idle = after(&[(0xFC, 0xF, 0x44332211)]);
+    let busy = Twin { busy: 1, ..idle };
+    let dwords = [
+        (0x00, 0x01528086),
+        (0x04, 0x00900000),
+        (0x0C, 0x00000000),
+        (0x34, 0x00000090),
+        (0xFC, 0x44332211),
+    ];
+    for (offset, dword) in dwords {
+        for lanes in 0..16 {
+            let wanted = in_lanes(dword, lanes);
+            assert_eq!(idle.read(offset, lanes), Ok(wanted), "{offset:X} {lanes:X}");
+            assert_eq!(door_read(&idle, offset, lanes), wanted.into());
+            assert_eq!(busy.read(offset, lanes), Ok(0xFFFFFFFF));
+            assert_eq!(door_read(&busy, offset, lanes), 0xFFFFFFFF);
+        }
+    }
+    assert_eq!(idle.read(0xFC, 0x0), Ok(0xFFFFFFFF));
+    assert_eq!(idle.read(0xFC, 0x2), Ok(0xFFFF22FF));
+    assert_eq!(idle.read(0xFC, 0x9), Ok(0x44FFFF11));
 }
 
 #[test]
@@ -118,6 +161,27 @@ fn ports() {
     assert_eq!(t.port_write(0xCF8, 4, 0xFF000003), Ok(()));
     assert_eq!(t.latch, 0x80000000);
     assert_eq!(t.port_write(0xCFC, 1, 0), Err(Refusal::OtherFunction));
+}
+
+#[test]
+fn port_reads_are_0_above_the_width() {
+    let mut idle = after(&[(0xFC, 0xF, 0x44332211)]);
+    idle.port_write(0xCF8, 4, 0x800010FC).unwrap();
+    let busy = Twin { busy: 1, ..idle };
+    let rows = [
+        (0xCFC, 1, 0x11, 0xFF),
+        (0xCFD, 1, 0x22, 0xFF),
+        (0xCFE, 1, 0x33, 0xFF),
+        (0xCFF, 1, 0x44, 0xFF),
+        (0xCFC, 2, 0x2211, 0xFFFF),
+        (0xCFD, 2, 0x3322, 0xFFFF),
+        (0xCFE, 2, 0x4433, 0xFFFF),
+        (0xCFC, 4, 0x44332211, 0xFFFFFFFF),
+    ];
+    for (port, width, value, ones) in rows {
+        assert_eq!(idle.port_read(port, width), Ok(value));
+        assert_eq!(busy.port_read(port, width), Ok(ones));
+    }
 }
 
 #[test]
@@ -230,8 +294,8 @@ fn a_busy_function_reads_ones_and_drops_writes() {
     for mut t in busy_ones() {
         let before = t;
         assert_eq!(t.read(0x00, 0xF), Ok(0xFFFFFFFF));
-        assert_eq!(t.read(0xA8, 0x5), Ok(0x00FF00FF));
-        assert_eq!(t.read(0xA8, 0x0), Ok(0));
+        assert_eq!(t.read(0xA8, 0x5), Ok(0xFFFFFFFF));
+        assert_eq!(t.read(0xA8, 0x0), Ok(0xFFFFFFFF));
         assert_eq!(t.image(), [0xFF; 256]);
         let ended = |found, count| Walk { found, count };
         assert_eq!(t.walk(0x13), ended(Err(Refusal::Endless), 48));
@@ -279,6 +343,7 @@ fn refusals_leave_every_byte() {
         (1, 0x100, 0x10, 0, 5),
         (1, 0x2C, 0x10, 0, 6),
         (2, 0x02, 0xF, 0, 5),
+        (2, 0x100, 0x0, 0, 5),
         (2, 0x00, 0x10, 0, 6),
         (3, 0x100, 0xFF, 0, 5),
         (3, 0x2C, 0x01, 0, 7),
@@ -315,6 +380,12 @@ fn refusals_leave_every_byte() {
                 )
             };
             assert_eq!((there, by_value), (number, number));
+            assert_eq!(lent, before);
+        }
+        for (offset, lanes, number) in [(0x2D, 0xF, 5), (0x2D, 0x0, 5), (0x2C, 0x10, 6)] {
+            // SAFETY: as above.
+            let result = unsafe { raw::twin_read(lent.record(), offset, lanes) };
+            assert_eq!(result, number << 48);
             assert_eq!(lent, before);
         }
     }

@@ -2,9 +2,9 @@
 use mathlib.Core.Path.{_≡_, refl, sym, ap, subst, _∙_}
 use Prim.Native.Nat.{ℕ, zero, suc, _+_, _-_, _*_, _/_, _%_, _^_, _<_, _≤_, min, max}
 use native.Mathlib.Omega.{arith}
-use native.Mathlib.Nat.{two-pow-succ, div-one, mod-one, zero-div, zero-add, suc-add, mul-add}
+use native.Mathlib.Nat.{pow-suc, two-pow-succ, div-one, mod-one, zero-div, zero-add, suc-add, mul-add}
 use native.Mathlib.Numerals.{one-add, add-one}
-use lib.Pow.{pow-pos, shr-shr, mod-pow-add}
+use lib.Pow.{pow-pos, pow-add, shr-shr, mod-pow-add}
 use lib.Bits.{bitAnd, bitOr, bitXor, differ, and-step, or-step, xor-step, and-shr, xor-shr}
 use mathlib.Core.Bool.{Bool, true, false, not}
 use lib.Dec.{T, eqb, ltb}
@@ -248,6 +248,16 @@ little-bits (suc n) f h =
     let up : numberOf (8 * n) (λ (b : ℕ). bit (f ((8 + b) / 8)) ((8 + b) % 8)) ≡ little n (λ (k : ℕ). f (suc k)) =
     number-ext (8 * n) (λ (b : ℕ). bit (f ((8 + b) / 8)) ((8 + b) % 8)) (λ (b : ℕ). bit (f (suc (b / 8))) (b % 8)) (λ b l. let q : (8 + b) / 8 ≡ suc (b / 8) = omega arith in let r : (8 + b) % 8 ≡ b % 8 = omega arith in rw (q, r)) ∙ little-bits n (λ (k : ℕ). f (suc k)) (λ k. h (suc k)) in
     ap (λ (w : ℕ). numberOf w (λ (b : ℕ). bit (f (b / 8)) (b % 8))) e ∙ number-split 8 (8 * n) (λ (b : ℕ). bit (f (b / 8)) (b % 8)) ∙ rw (low, up) (omega arith)
+
+pow-256 : (a : ℕ) → 256 ^ a ≡ 2 ^ (8 * a)
+pow-256 zero = refl
+pow-256 (suc a) =
+    let e : 8 * suc a ≡ 8 * a + 8 = omega arith in
+    rw (pow-suc 256 a, pow-256 a, e, pow-add 2 (8 * a) 8)
+
+-- w bytes of x from byte a on
+pub bytes-part : (w a x : ℕ) → numberOf (8 * w) (λ (n : ℕ). bit x (8 * a + n)) ≡ x / 256 ^ a % 256 ^ w
+bytes-part w a x = number-part (8 * w) (8 * a) x ∙ rw (pow-256 a, pow-256 w)
 
 pub joined-little : (f : ℕ → ℕ) → joined (f 0) (f 1) (f 2) (f 3) ≡ little 4 f
 unfolding little

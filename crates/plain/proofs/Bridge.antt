@@ -2,23 +2,23 @@
 use mathlib.Core.Path.{_≡_, refl, sym, ap, _∙_}
 use mathlib.Core.List.{List}
 use mathlib.Core.Bool.{Bool, true, false}
-use Prim.Native.Nat.{ℕ, _+_, _/_, _%_, _^_, _<_, _≤_}
+use Prim.Native.Nat.{ℕ, _+_, _*_, _/_, _%_, _^_, _<_, _≤_}
 use native.Mathlib.Omega.{arith}
 use native.Mathlib.Nat.{zero-add, add-zero, div-one}
 use lib.Dec.{T, eqb, eqb→eq}
 use borrow.Author.Tests.{ltb-false}
 use lib.ListN.{length, getD}
 use Rattle.bits.specs.Bits.{bit, numberOf, byteOf, joined, blendK}
-use Rattle.bits.specs.Choice.{pick, both, _is_, allBelow}
+use Rattle.bits.specs.Choice.{pick, _is_, allBelow}
 use Rattle.bits.specs.Places.{bytes}
-use Rattle.bits.proofs.Laws.{number-ext, number-bits, bit-number, bit-zero, bit<2, blend-each, little-bits, joined-little}
-use Rattle.bits.proofs.Below.{below, both-off}
+use Rattle.bits.proofs.Laws.{number-ext, number-bits, number-mod, bit-number, bit-zero, bit<2, blend-each, little-bits, joined-little}
+use Rattle.bits.proofs.Below.{below}
 use Rattle.bits.proofs.Places.{as-bytes, length-mapN, getD-mapN, length-put4, put4-at}
 use Rattle.answer.specs.Refusals.{ok, no, OFFSET, LANES}
-use Rattle.rules.specs.Access.{enabled, byteFor, badOffset, badLanes}
+use Rattle.rules.specs.Access.{enabled, badOffset, badLanes}
 use Rattle.rules.specs.Plain.{Bits, Mask, held, under, undriven, shownValue, readReply, storedOver, writtenBit, returnedBit}
 use Rattle.rules.proofs.Access.{good-offset, enabled-at, byteFor-at, not-within}
-use Rattle.plain.specs.Bytes.{spreadOf, drivenOf, ifEnabled, laneOf, storedOf, returnedByte, returnedOf}
+use Rattle.plain.specs.Bytes.{spreadOf, dwordBits, drivenOf, ifEnabled, laneOf, storedOf, returnedByte, returnedOf}
 
 -- ---- a read
 
@@ -29,9 +29,37 @@ all-spread : T (allBelow 16 spread-at)
 unfolding spread-at spreadOf
 all-spread = tt
 
-spread-bit : (l n : ℕ) → l < 16 → n < 32 → bit (spreadOf l) n ≡ bit l (n / 8)
+-- only the four lowest bits of l are lanes
+lane-bit-of : (l k : ℕ) → k < 4 → bit (l % 16) k ≡ bit l k
+lane-bit-of l k h = ap (λ (x : ℕ). bit x k) (sym (number-mod 4 l)) ∙ bit-number 4 (bit l) (bit<2 l) k h
+
+spread-low : (l : ℕ) → spreadOf l ≡ spreadOf (l % 16)
+unfolding spreadOf
+spread-low l = rw (lane-bit-of l 1 (omega arith), lane-bit-of l 2 (omega arith), lane-bit-of l 3 (omega arith), first)
+  where
+    first : l % 16 % 2 ≡ l % 2
+    first = omega arith
+
+spread-bit : (l n : ℕ) → n < 32 → bit (spreadOf l) n ≡ bit l (n / 8)
 unfolding spread-at
-spread-bit l n h k = eqb→eq _ _ (below 32 (λ (n : ℕ). eqb (bit (spreadOf l) n) (bit l (n / 8))) (below 16 spread-at all-spread l h) n k)
+spread-bit l n h =
+    ap (λ (x : ℕ). bit x n) (spread-low l)
+    ∙ eqb→eq _ _ (below 32 (λ (n : ℕ). eqb (bit (spreadOf (l % 16)) n) (bit (l % 16) (n / 8))) (below 16 spread-at all-spread (l % 16) (omega arith)) n h)
+    ∙ lane-bit-of l (n / 8) (omega arith)
+
+high-bit : (n : ℕ) → n < 32 → bit 0xFFFFFFFF n ≡ undriven
+high-bit n h = eqb→eq _ _ (below 32 (λ (n : ℕ). eqb (bit 0xFFFFFFFF n) undriven) tt n h)
+
+whole : (n : ℕ) → 8 * (n / 8) + n % 8 ≡ n
+whole n = omega arith
+
+-- the enabled bytes of a dword over a bus that is pulled high
+pub blended-is : (l d : ℕ) → blendK 32 (spreadOf l) 0xFFFFFFFF d ≡ drivenOf l d
+unfolding drivenOf
+blended-is l d =
+    blend-each 32 (spreadOf l) 0xFFFFFFFF d
+    ∙ number-ext 32 (λ (n : ℕ). pick (eqb (bit (spreadOf l) n) 1) (bit d n) (bit 0xFFFFFFFF n)) (λ (n : ℕ). pick (eqb (bit l (n / 8)) 1) (dwordBits d (0 + n / 8) (n % 8)) undriven)
+    (λ n h. rw (spread-bit l n h, high-bit n h, zero-add (n / 8), whole n))
 
 -- bit n of the dword that four bytes make is bit n % 8 of byte n / 8
 pub joined-bit : (f : ℕ → ℕ) → ((k : ℕ) → f k < 2 ^ 8) → (n : ℕ) → n < 32 → bit (joined (f 0) (f 1) (f 2) (f 3)) n ≡ bit (f (n / 8)) (n % 8)
@@ -39,13 +67,12 @@ joined-bit f small n h =
     let whole : joined (f 0) (f 1) (f 2) (f 3) ≡ numberOf 32 (λ (n : ℕ). bit (f (n / 8)) (n % 8)) = joined-little f ∙ sym (little-bits 4 f small) in
     ap (λ (x : ℕ). bit x n) whole ∙ bit-number 32 (λ (n : ℕ). bit (f (n / 8)) (n % 8)) (λ n. bit<2 (f (n / 8)) (n % 8)) n h
 
--- the enabled bytes of a dword whose bits are b's from byte o on
-pub driven-is : (b : Bits) (o l d : ℕ) → l < 16 → ((n : ℕ) → n < 32 → bit d n ≡ b (o + n / 8) (n % 8)) → drivenOf l d ≡ shownValue b o l
+-- the read of a dword whose bits are b's from byte o on
+pub driven-is : (b : Bits) (o l d : ℕ) → ((n : ℕ) → n < 32 → bit d n ≡ b (o + n / 8) (n % 8)) → drivenOf l d ≡ shownValue b o l
 unfolding drivenOf
-driven-is b o l d h e =
-    blend-each 32 (spreadOf l) 0 d
-    ∙ number-ext 32 (λ (n : ℕ). pick (eqb (bit (spreadOf l) n) 1) (bit d n) (bit 0 n)) (λ (n : ℕ). pick (eqb (bit l (n / 8)) 1) (b (o + n / 8) (n % 8)) undriven)
-    (λ n k. rw (spread-bit l n h k, bit-zero n, e n k))
+driven-is b o l d e =
+    number-ext 32 (λ (n : ℕ). pick (eqb (bit l (n / 8)) 1) (dwordBits d (0 + n / 8) (n % 8)) undriven) (λ (n : ℕ). pick (eqb (bit l (n / 8)) 1) (b (o + n / 8) (n % 8)) undriven)
+    (λ n h. rw (zero-add (n / 8), whole n, e n h))
 
 -- two values that agree where the access is accepted make one reply
 pub reply-is : (o l x y : ℕ) → (o + 3 < 256 → l < 16 → x ≡ y) → readReply o l x ≡ readReply o l y

@@ -2,16 +2,22 @@
 use mathlib.Core.List.{List}
 use Prim.Native.Nat.{ℕ, _+_, _*_, _/_, _%_}
 use lib.ListN.{getD}
-use Rattle.bits.specs.Bits.{blendK}
+use Rattle.bits.specs.Bits.{bit, blendK}
 use Rattle.bits.specs.Choice.{if_then_else_, _is_}
 use Rattle.bits.specs.Places.{mapN, put4Of}
+use Rattle.rules.specs.Plain.{Bits, shownValue}
 
 -- FF in each enabled lane
 unfoldable pub spreadOf : ℕ → ℕ
 spreadOf l = l % 2 * 255 + l / 2 % 2 * 65280 + l / 4 % 2 * 16711680 + l / 8 % 2 * 4278190080
 
+-- the bits of a dword, byte by byte
+abbrev pub dwordBits : ℕ → Bits
+dwordBits d i j = bit d (8 * i + j)
+
+-- the read of a dword with lanes l
 unfoldable pub drivenOf : ℕ → ℕ → ℕ
-drivenOf l d = blendK 32 (spreadOf l) 0 d
+drivenOf l d = shownValue (dwordBits d) 0 l
 
 unfoldable pub ifEnabled : ℕ → ℕ → ℕ
 ifEnabled on mask = if on is 1 then mask else 0

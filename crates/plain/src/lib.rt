@@ -14,11 +14,14 @@ fn spread(lanes: u32) -> u32
     lanes % 2 * 255 + lanes / 2 % 2 * 65280 + lanes / 4 % 2 * 16711680 + lanes / 8 % 2 * 4278190080
 }
 
-// The enabled bytes of a dword, 00 in the other lanes.
+// What a bus that pulls its lanes high shows where none is enabled.
+const UNDRIVEN: u32 = 4294967295;
+
+// The enabled bytes of a dword, FF in the other lanes.
 pub fn driven(lanes: u32, dword: u32) -> u32
     ensures { λ r. ⌜ r ≡ drivenOf lanes dword ⌝ }
 {
-    bits::blend32(spread(lanes), 0, dword)
+    bits::blend32(spread(lanes), UNDRIVEN, dword)
 }
 
 // ---- a store

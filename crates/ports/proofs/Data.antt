@@ -1,21 +1,19 @@
 -- What a port access comes to: the latch that a write leaves, the bytes that a read takes out of a dword, and which accesses are data.
-use mathlib.Core.Path.{_≡_, refl, subst, sym, _∙_}
+use mathlib.Core.Path.{_≡_, refl, _∙_}
 use mathlib.Core.Bool.{Bool, true, false, not}
-use Prim.Native.Nat.{ℕ, zero, suc, _+_, _-_, _*_, _/_, _%_, _^_, _<_, _≤_}
+use Prim.Native.Nat.{ℕ, _+_, _-_, _*_, _/_, _%_, _^_, _<_, _≤_}
 use native.Mathlib.Omega.{arith}
-use native.Mathlib.Nat.{pow-suc}
 use lib.Dec.{T, eqb, leb, ltb}
-use lib.Pow.{pow-add}
-use borrow.Author.Tests.{leb-true, not-false, le-ltb, eq-eqb}
+use borrow.Author.Tests.{le-ltb, eq-eqb}
 use Rattle.bits.specs.Bits.{bit, pickBit, blendK}
 use Rattle.bits.specs.Choice.{pick, both, either, mark, allBelow}
-use Rattle.bits.proofs.Laws.{number-ext, number-part, number<, bit-zero, bit<2, pick-bit, blend-number}
-use Rattle.bits.proofs.Below.{below, same, same-eq, either-left, mark<2}
+use Rattle.bits.proofs.Laws.{number-ext, number<, bit-zero, bit<2, pick-bit, blend-number}
+use Rattle.bits.proofs.Below.{below, same, same-eq, mark<2}
 use Rattle.rules.specs.declared.State.{State}
 use Rattle.rules.specs.Access.{byte, busy, done}
 use Rattle.rules.specs.Guest.{stepOf, writeOf}
-use Rattle.rules.specs.Read.{readBit}
-use Rattle.rules.specs.Ports.{DATA, badWidth, atLatch, atData, notOurs, latchBit, latchOf, dwordOf, portLanes, placed, portValue}
+use Rattle.rules.specs.Ports.{DATA, badWidth, atLatch, notOurs, latchBit, latchOf, dwordOf, portLanes, placed, portValue}
+use Rattle.rules.proofs.Lanes.{data-within, part-shown}
 use Rattle.reads.specs.Shown.{readDword}
 use Rattle.reads.proofs.Bridge.{dword-bit}
 use Rattle.ports.specs.Part.{Width, partOf}
@@ -46,10 +44,6 @@ latch-is v =
 
 -- ---- which accesses are data
 
-both-true : (a b : Bool) → both a b ≡ true → (a ≡ true) × (b ≡ true)
-both-true true b e = (refl, e)
-both-true false b e = absurd (subst T (sym e) tt)
-
 -- w bytes within CFCh to CFFh
 pub record Within (p w : ℕ) : Type 0 where
   pub width : Width w
@@ -58,33 +52,18 @@ pub record Within (p w : ℕ) : Type 0 where
 
 -- not refused and not the latch
 pub data-access : (latch p w : ℕ) → badWidth w ≡ false → notOurs latch p w ≡ false → atLatch p w ≡ false → Within p w
-unfolding notOurs
 data-access latch p w g e n =
-    let t : atData p w ≡ true = not-false (atData p w) (either-left (not (atData p w)) _ (rw n at e)) in
-    let f = both-true (leb DATA p) (leb (p + w) 0xD00) t in
-    let from : DATA ≤ p = leb-true DATA p (f .0) in
-    let to : p + w ≤ 0xD00 = leb-true (p + w) 0xD00 (f .1) in
+    let f = data-within latch p w e n in
+    let from : DATA ≤ p = f .0 in
+    let to : p + w ≤ 0xD00 = f .1 in
     let least : 1 ≤ w = some w (good-width w g) in
     record { width = good-width w g; room = omega arith; lane = omega arith }
 
 -- ---- a read
 
-pow-256 : (a : ℕ) → 256 ^ a ≡ 2 ^ (8 * a)
-pow-256 zero = refl
-pow-256 (suc a) =
-    let e : 8 * suc a ≡ 8 * a + 8 = omega arith in
-    rw (pow-suc 256 a, pow-256 a, e, pow-add 2 (8 * a) 8)
-
 -- w bytes from byte a of a dword are those that a guest reads
 pub part-is : (s : State) → ((i : ℕ) → byte s i < 2 ^ 8) → (o a w : ℕ) → o + 3 < 256 → a + w ≤ 4 → partOf (readDword (busy s) (s .bytes) o) a w ≡ portValue s (o + a) w
-unfolding portValue
-part-is s b o a w h k =
-    rw (pow-256 a, pow-256 w) (sym (number-part (8 * w) (8 * a) (readDword (busy s) (s .bytes) o)))
-    ∙ number-ext (8 * w) (λ (n : ℕ). bit (readDword (busy s) (s .bytes) o) (8 * a + n)) (λ (n : ℕ). readBit s (o + a + n / 8) (n % 8))
-    (λ n l.
-    let e : o + (8 * a + n) / 8 ≡ o + a + n / 8 = omega arith in
-    let r : (8 * a + n) % 8 ≡ n % 8 = omega arith in
-    dword-bit s b o (8 * a + n) h (omega arith) ∙ rw (e, r))
+part-is s b o a w h k = part-shown s o a w (readDword (busy s) (s .bytes) o) (λ n l. dword-bit s b o (8 * a + n) h (omega arith))
 
 pub port-part : (s : State) → ((i : ℕ) → byte s i < 2 ^ 8) → (latch p w : ℕ) → Within p w → partOf (readDword (busy s) (s .bytes) (latch / 4 % 64 % 64 * 4)) (p % 4) w ≡ portValue s (dwordOf latch + (p - DATA)) w
 port-part s b latch p w d =

@@ -1,7 +1,7 @@
 -- w bytes from byte a of a dword: they fit, and they are what the rules place and take, once over the width.
 use mathlib.Core.Path.{_≡_, refl, subst, sym}
 use mathlib.Core.Logic.{⊎-elim, _⊎_, inl, inr}
-use mathlib.Core.Bool.{Bool, true, false, not}
+use mathlib.Core.Bool.{Bool, true, false}
 use Prim.Native.Nat.{ℕ, _+_, _^_, _<_, _≤_}
 use native.Mathlib.Nat.{mod-lt, one-le-pow, mul-lt-mul-of-pos-right, lt-of-lt-of-le, pow-le-pow-right}
 use native.Mathlib.Omega.{arith}

@@ -63,7 +63,7 @@ pub fn dword(m: &[u8; 256], busy: u8, d: u8) -> u32
     dword_at(m, busy, o)
 }
 
-// The enabled bytes of the dword at `offset`, 00 in the other lanes.
+// The enabled bytes of the dword at `offset`, FF in the other lanes.
 pub fn read(m: &[u8; 256], busy: u8, offset: u32, lanes: u32) -> ReadAnswer
     ensures { λ r. ⌜ readSays r ≡ readLanes (up busy) (now (m .entry)) offset lanes ⌝ }
 {

@@ -1,6 +1,6 @@
 -- Laws of an access and of one bit: what is enabled, that a bit stays a bit, that only byte 3 of GMADR has bits that a size code takes.
 use mathlib.Core.Path.{_≡_, sym}
-use mathlib.Core.Bool.{Bool, true, false, not}
+use mathlib.Core.Bool.{Bool, true, false}
 use Prim.Native.Nat.{ℕ, _+_, _-_, _/_, _%_, _^_, _<_, _≤_}
 use native.Mathlib.Omega.{arith}
 use lib.Dec.{T, eqb, leb, ltb, leb→le, ltb→lt}

@@ -8,7 +8,7 @@ use lib.Dec.{T, eqb, ltb, eqb→eq}
 use borrow.Author.Tests.{eqb-false}
 use Rattle.bits.specs.Bits.{bit, numberOf, byteOf}
 use Rattle.bits.specs.Choice.{pick, both, either, allBelow}
-use Rattle.bits.proofs.Laws.{number-ext, number-none, number-split}
+use Rattle.bits.proofs.Laws.{number-ext, number-split}
 use Rattle.bits.proofs.Below.{below, both-left, both-right, is-true, is-false}
 use Rattle.answer.specs.Refusals.{ok}
 use Rattle.map.specs.Registers.{CAPPOINT, CAPL, SVID2, SID2, AFCTL, SWSCI}
@@ -19,6 +19,7 @@ use Rattle.rules.specs.declared.State.{State}
 use Rattle.rules.specs.Access.{byte, busy, badOffset, badLanes, done, refused}
 use Rattle.rules.specs.Guest.{writtenOf, stepOf, writeOf}
 use Rattle.rules.specs.Read.{pointer, shownBit, readBit, readValue, readOf}
+use Rattle.rules.specs.Plain.{undriven}
 use Rattle.rules.specs.Host.{notHost, hostStepOf, hostOf}
 use Rattle.rules.specs.Reset.{reset, endedBit, endedOf, endOf}
 use Rattle.rules.specs.Ports.{badWidth, notOurs, atLatch, otherFunction, latched, portWriteOf}
@@ -120,19 +121,23 @@ high-lanes n h = let t = below 16 (λ (n : ℕ). both (not (eqb (bit 3 ((16 + n)
 
 module _ (s : State) (o : ℕ) where
   abbrev lane : ℕ → ℕ → ℕ
-  lane l n = pick (eqb (bit l (n / 8)) 1) (readBit s (o + n / 8) (n % 8)) 0
+  lane l n = pick (eqb (bit l (n / 8)) 1) (readBit s (o + n / 8) (n % 8)) undriven
 
-  low-word : readValue s o 3 ≡ numberOf 16 (λ (n : ℕ). readBit s (o + n / 8) (n % 8))
+  -- the word that is not enabled
+  abbrev rest : ℕ
+  rest = numberOf 16 (λ (n : ℕ). undriven)
+
+  low-word : readValue s o 3 ≡ numberOf 16 (λ (n : ℕ). readBit s (o + n / 8) (n % 8)) + rest * 2 ^ 16
   unfolding readValue
   low-word =
-      let high : numberOf 16 (λ (n : ℕ). lane 3 (16 + n)) ≡ 0 = number-ext 16 (λ (n : ℕ). lane 3 (16 + n)) (λ (n : ℕ). 0) (λ n h. rw (high-lanes n h .0)) ∙ number-none 16 in
+      let high : numberOf 16 (λ (n : ℕ). lane 3 (16 + n)) ≡ rest = number-ext 16 (λ (n : ℕ). lane 3 (16 + n)) (λ (n : ℕ). undriven) (λ n h. rw (high-lanes n h .0)) in
       let low : numberOf 16 (lane 3) ≡ numberOf 16 (λ (n : ℕ). readBit s (o + n / 8) (n % 8)) = number-ext 16 (lane 3) (λ (n : ℕ). readBit s (o + n / 8) (n % 8)) (λ n h. rw (low-lanes n h .0)) in
-      number-split 16 16 (lane 3) ∙ rw (high, low) (omega arith)
+      number-split 16 16 (lane 3) ∙ rw (high, low)
 
-  high-word : readValue s o 12 ≡ numberOf 16 (λ (n : ℕ). readBit s (o + 2 + n / 8) (n % 8)) * 2 ^ 16
+  high-word : readValue s o 12 ≡ numberOf 16 (λ (n : ℕ). readBit s (o + 2 + n / 8) (n % 8)) * 2 ^ 16 + rest
   unfolding readValue
   high-word =
-      let low : numberOf 16 (lane 12) ≡ 0 = number-ext 16 (lane 12) (λ (n : ℕ). 0) (λ n h. rw (low-lanes n h .1)) ∙ number-none 16 in
+      let low : numberOf 16 (lane 12) ≡ rest = number-ext 16 (lane 12) (λ (n : ℕ). undriven) (λ n h. rw (low-lanes n h .1)) in
       let high : numberOf 16 (λ (n : ℕ). lane 12 (16 + n)) ≡ numberOf 16 (λ (n : ℕ). readBit s (o + 2 + n / 8) (n % 8)) =
       number-ext 16 (λ (n : ℕ). lane 12 (16 + n)) (λ (n : ℕ). readBit s (o + 2 + n / 8) (n % 8)) (λ n h.
       let i : o + (16 + n) / 8 ≡ o + 2 + n / 8 = omega arith in
@@ -149,12 +154,12 @@ unfolding rows rowAt classOf
 sid2-locked = tt
 
 pub read-back-2C : Read-back-2C
-unfolding readOf
-read-back-2C es q = ap ok (low-word (run es) SVID2 ∙ word-reads svid2 SVID2 svid2-locked (omega arith) es q)
+unfolding readOf numberOf
+read-back-2C es q = ap ok (low-word (run es) SVID2 ∙ ap (λ (x : ℕ). x + 0xFFFF0000) (word-reads svid2 SVID2 svid2-locked (omega arith) es q))
 
 pub read-back-2E : Read-back-2E
-unfolding readOf
-read-back-2E es q = ap ok (high-word (run es) SVID2 ∙ ap (λ (x : ℕ). x * 2 ^ 16) (word-reads sid2 SID2 sid2-locked (omega arith) es q))
+unfolding readOf numberOf
+read-back-2E es q = ap ok (high-word (run es) SVID2 ∙ ap (λ (x : ℕ). x * 2 ^ 16 + 0xFFFF) (word-reads sid2 SID2 sid2-locked (omega arith) es q))
 
 -- AFCTL has no bit that a guest write stores or the host has, and default 0
 afctl-at : ℕ → Bool
@@ -178,7 +183,7 @@ pub poll : Poll
 unfolding readOf readValue readBit numberOf
 poll es = ap ok (go (busy (run es)) refl)
   where
-    go : (b : Bool) → busy (run es) ≡ b → readValue (run es) AFCTL 1 ≡ pick b 0xFF 0
+    go : (b : Bool) → busy (run es) ≡ b → readValue (run es) AFCTL 1 ≡ pick b 0xFFFFFFFF 0xFFFFFF00
     go true e = rw e
     go false e = rw (e, afctl-shown es 0 (omega arith), afctl-shown es 1 (omega arith), afctl-shown es 2 (omega arith), afctl-shown es 3 (omega arith), afctl-shown es 4 (omega arith), afctl-shown es 5 (omega arith), afctl-shown es 6 (omega arith), afctl-shown es 7 (omega arith))
 

@@ -17,7 +17,7 @@ use Rattle.rules.specs.Access.{byte, busy, badOffset, badLanes, done, re
 use Rattle.rules.specs.Guest.{bitAfter, writtenOf, stepOf, writeOf}
 use Rattle.rules.specs.Reset.{endedBit, endedOf, endOf}
 use Rattle.rules.specs.Read.{pointer, shownBit, readBit, readValue}
-use Rattle.rules.specs.Plain.{undriven}
+use Rattle.rules.specs.Plain.{Bits, undriven, shownValue}
 use Rattle.rules.specs.Host.{notHost, hostBit, hostStepOf, hostOf}
 use Rattle.rules.proofs.Access.{after<2, ended<2}
 
@@ -90,7 +90,10 @@ pub read<2 : (s : State) (i j : ℕ) → readBit s i j < 2
 unfolding readBit shownBit
 read<2 s i j = pick-has (λ (x : ℕ). x < 2) (busy s) 1 _ (omega arith) (pick-has (λ (x : ℕ). x < 2) (sameClass (classOf i j) computed) (bit (pointer s) j) (bit (byte s i) j) (bit<2 (pointer s) j) (bit<2 (byte s i) j))
 
--- bit n of a read's value: that of the byte in its lane where the lane is enabled
+-- bit n of a read's value: that of the byte in its lane where the lane is enabled, and a one elsewhere; for any bits
+pub shown-bit : (b : Bits) → ((i j : ℕ) → b i j < 2) → (o l n : ℕ) → n < 32 → bit (shownValue b o l) n ≡ pick (eqb (bit l (n / 8)) 1) (b (o + n / 8) (n % 8)) undriven
+shown-bit b small o l n h = bit-number 32 (λ (n : ℕ). pick (eqb (bit l (n / 8)) 1) (b (o + n / 8) (n % 8)) undriven) (λ n. pick-has (λ (x : ℕ). x < 2) (eqb (bit l (n / 8)) 1) (b (o + n / 8) (n % 8)) undriven (small (o + n / 8) (n % 8)) (omega arith)) n h
+
 pub each-bit-read : (s : State) (o l n : ℕ) → n < 32 → bit (readValue s o l) n ≡ pick (eqb (bit l (n / 8)) 1) (readBit s (o + n / 8) (n % 8)) undriven
 unfolding readValue
-each-bit-read s o l n h = bit-number 32 (λ (n : ℕ). pick (eqb (bit l (n / 8)) 1) (readBit s (o + n / 8) (n % 8)) undriven) (λ n. pick-has (λ (x : ℕ). x < 2) (eqb (bit l (n / 8)) 1) (readBit s (o + n / 8) (n % 8)) undriven (read<2 s (o + n / 8) (n % 8)) (omega arith)) n h
+each-bit-read s o l n h = shown-bit (readBit s) (read<2 s) o l n h

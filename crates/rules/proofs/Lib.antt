@@ -1,6 +1,7 @@
 pub mod Busy
 pub mod Access
 pub mod EachBit
+pub mod Lanes
 pub mod NoLanes
 pub mod One
 pub mod Plain

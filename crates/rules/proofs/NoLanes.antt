@@ -1,12 +1,12 @@
--- Lanes 0 is accepted, reads 0, and changes nothing.
+-- A write with lanes 0 is accepted and changes nothing.
 use mathlib.Core.Path.{_≡_, refl, sym, _∙_}
 use mathlib.Core.Bool.{false}
-use Prim.Native.Nat.{ℕ, _+_, _-_, _/_, _%_, _^_, _<_}
+use Prim.Native.Nat.{ℕ, _+_, _-_, _^_, _<_}
 use lib.Dec.{eqb, leb, ltb}
 use lib.ListN.{length}
 use Rattle.bits.specs.Bits.{bit, byteOf}
-use Rattle.bits.specs.Choice.{pick, both}
-use Rattle.bits.proofs.Laws.{number-ext, number-bits, number-none, bit-zero}
+use Rattle.bits.specs.Choice.{both}
+use Rattle.bits.proofs.Laws.{number-ext, number-bits, bit-zero}
 use Rattle.bits.proofs.Below.{both-off, none-any, pick-has}
 use Rattle.bits.proofs.Places.{as-bytes}
 use Rattle.map.specs.Registers.{MSAC, AFCTL}
@@ -15,16 +15,6 @@ use Rattle.rules.specs.declared.State.{State}
 use Rattle.rules.specs.declared.Flags.{Flags}
 use Rattle.rules.specs.Access.{byte, busy, enabled}
 use Rattle.rules.specs.Guest.{ofField, touches, flagsAfter, store, clear, starts, storedBit, bitAfter, writtenOf, stepOf}
-use Rattle.rules.specs.Read.{readBit, readValue}
-use Rattle.rules.specs.Plain.{undriven}
-
--- ---- a read
-
-pub no-lanes-read : (s : State) (o : ℕ) → readValue s o 0 ≡ 0
-unfolding readValue
-no-lanes-read s o = number-ext 32 (λ (n : ℕ). pick (eqb (bit 0 (n / 8)) 1) (readBit s (o + n / 8) (n % 8)) undriven) (λ (n : ℕ). 0) (λ n h. rw (bit-zero (n / 8))) ∙ number-none 32
-
--- ---- a write
 
 none-enabled : (o i : ℕ) → enabled o 0 i ≡ false
 unfolding enabled

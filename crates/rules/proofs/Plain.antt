@@ -8,7 +8,7 @@ use Rattle.bits.specs.Bits.{bit}
 use Rattle.bits.specs.Choice.{pick, both, either}
 use Rattle.bits.proofs.Below.{any-none, both-off, unmasked}
 use Rattle.rules.specs.Plain.{Mask, outside, updateGives}
-use Rattle.rules.specs.Past.{Given, nothing, given}
+use Rattle.rules.specs.Past.{nothing, given}
 
 pub mask-off : (h : Mask) (o m i j : ℕ) → j < 8 → h i j ≡ false → outside h o m ≡ false → i ≡ o → eqb (bit m j) 1 ≡ false
 mask-off h o m i j k n e q = unmasked (eqb (bit m j) 1) (h o j) (any-none 8 (λ (j : ℕ). both (eqb (bit m j) 1) (not (h o j))) e j k) (rw q at n)

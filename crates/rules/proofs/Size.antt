@@ -10,7 +10,7 @@ use Rattle.bits.specs.Choice.{pick, both, allBelow}
 use Rattle.bits.proofs.Laws.{number-ext, number-bits, number<}
 use Rattle.bits.proofs.Below.{below, both-left, both-right, is-false}
 use Rattle.bits.proofs.Places.{getD-bytes}
-use Rattle.map.specs.Registers.{GMADR, MSAC}
+use Rattle.map.specs.Registers.{MSAC}
 use Rattle.map.specs.Class.{aperture, hasF, isHost, resetStart, sameClass}
 use Rattle.map.specs.Map.{rows, rowAt, classOf, defaults, defaultAt}
 use Rattle.rules.specs.declared.State.{State}

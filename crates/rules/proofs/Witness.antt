@@ -3,7 +3,7 @@ use mathlib.Core.Path.{_≡_, refl}
 use mathlib.Core.List.{List, [], _∷_}
 use mathlib.Core.Bool.{true, false}
 use Rattle.bits.specs.Bits.{numberOf}
-use Rattle.answer.specs.Refusals.{ok, no, OFFSET, NOT-HOST, OTHER-FUNCTION}
+use Rattle.answer.specs.Refusals.{ok, no, OFFSET, LANES, NOT-HOST, OTHER-FUNCTION}
 use Rattle.map.specs.Registers.{VID2, DID2, PCICMD2, GMADR, SVID2, CAPPOINT, HSRW, AFCTL, SWSCI}
 use Rattle.map.specs.Class.{svid2, sid2, swsci15}
 use Rattle.map.specs.Map.{rows, rowAt, classOf, defaults}
@@ -13,9 +13,9 @@ use Rattle.rules.specs.Reset.{reset, endedBit, endedOf, endOf}
 use Rattle.rules.specs.Read.{pointer, shownBit, readBit, readValue, readOf}
 use Rattle.rules.specs.Host.{notHost, hostBit, hostStepOf, hostOf}
 use Rattle.rules.specs.Fresh.{freshOf}
-use Rattle.rules.specs.Ports.{notOurs, otherFunction, latchOf, portLanes, portWriteOf}
+use Rattle.rules.specs.Ports.{notOurs, otherFunction, latchOf, portLanes, portValue, portReadOf, portWriteOf}
 use Rattle.rules.specs.Claims.{base, apertureBase}
-use Rattle.rules.specs.Events.{Event, write, port-write, host-update, end-signal, platform-reset, happens, run}
+use Rattle.rules.specs.Events.{Event, write, port-read, port-write, host-update, end-signal, platform-reset, happens, run}
 use Rattle.rules.specs.History.{none, at, acceptedWrite, seen, firstFrom, firstWrite, gives, lastUpdate}
 use Rattle.rules.specs.Past.{nothing, given, ran, anyReset, since, lastGiven}
 use Rattle.rules.specs.Demand3.{codeOf}
@@ -59,9 +59,9 @@ enlarged = write GMADR 15 0xFFFFFFFF ∷ write HSRW 4 0x00060000 ∷ write HSRW 
 pub record Witnessed : Type 0 where
   -- 1. write-once
   pub halves-first : firstWrite svid2 halves ≡ at SVID2 1 0x34
-  pub halves-read : readOf (run halves) SVID2 3 ≡ ok 0x0034
+  pub halves-read : readOf (run halves) SVID2 3 ≡ ok 0xFFFF0034
   pub halves-none : firstWrite sid2 halves ≡ none
-  pub halves-returned : readOf (run halves) PCICMD2 3 ≡ ok 0
+  pub halves-returned : readOf (run halves) PCICMD2 3 ≡ ok 0xFFFF0000
   pub ports-first : firstWrite sid2 ports ≡ at SVID2 15 0xABCD1234
   pub ports-read : readOf (run ports) SVID2 15 ≡ ok 0xABCD1234
   pub default-first : firstWrite swsci15 default ≡ at SWSCI 2 0
@@ -73,7 +73,7 @@ pub record Witnessed : Type 0 where
   pub twice-read : readOf (run twice) VID2 15 ≡ ok 0x01128086
   pub taken-back-read : readOf (run taken-back) VID2 15 ≡ ok 0x01528086
   -- 3. the list pointer
-  pub listed-read : readOf (run listed) CAPPOINT 1 ≡ ok 0xD0
+  pub listed-read : readOf (run listed) CAPPOINT 1 ≡ ok 0xFFFFFFD0
   -- 4. the aperture
   pub enlarged-code : codeOf enlarged ≡ 3
   pub enlarged-base : apertureBase (run enlarged) ≡ 0xE0000000
@@ -83,13 +83,19 @@ pub record Witnessed : Type 0 where
   pub port-refused : happens (port-write 0xCFC 4 1) (run (port-write 0xCF8 4 0x80001800 ∷ [])) .reply ≡ no OTHER-FUNCTION
   -- 6. busy
   pub started-busy : seen started .busy ≡ true
-  pub started-read : readOf (run started) VID2 5 ≡ ok 0x00FF00FF
+  pub started-read : readOf (run started) VID2 5 ≡ ok 0xFFFFFFFF
   pub started-held : byte (run started) PCICMD2 ≡ 7
   pub started-given : byte (run started) DID2 ≡ 0x11
   pub ended-busy : seen halves .busy ≡ false
+  -- lanes that are not enabled, and the same bytes through the port pair
+  pub split-read : readOf freshOf VID2 5 ≡ ok 0xFF52FF86
+  pub high-read : readOf freshOf VID2 12 ≡ ok 0x0152FFFF
+  pub none-read : readOf freshOf VID2 0 ≡ ok 0xFFFFFFFF
+  pub refused-read : readOf freshOf VID2 16 ≡ no LANES
+  pub port-read-high : happens (port-read 0xCFE 2) (run (port-write 0xCF8 4 0x80001000 ∷ [])) .reply ≡ ok 0x0152
 
 pub witnessed : Witnessed
-unfolding numberOf rows rowAt classOf defaults enabled byteFor bitsTaken takenBy takes store clear starts storedBit sizeAfter bitAfter ofField touches flagsAfter writtenOf stepOf writeOf reset endedBit endedOf endOf pointer shownBit readBit readValue readOf notHost hostBit hostStepOf hostOf freshOf notOurs otherFunction latchOf portLanes portWriteOf base happens ran anyReset since acceptedWrite firstFrom gives lastGiven
+unfolding numberOf rows rowAt classOf defaults enabled byteFor bitsTaken takenBy takes store clear starts storedBit sizeAfter bitAfter ofField touches flagsAfter writtenOf stepOf writeOf reset endedBit endedOf endOf pointer shownBit readBit readValue readOf notHost hostBit hostStepOf hostOf freshOf notOurs otherFunction latchOf portLanes portValue portReadOf portWriteOf base happens ran anyReset since acceptedWrite firstFrom gives lastGiven
 witnessed = record {
   halves-first = refl;
   halves-read = refl;
@@ -112,6 +118,11 @@ witnessed = record {
   started-held = refl;
   started-given = refl;
   ended-busy = refl;
+  split-read = refl;
+  high-read = refl;
+  none-read = refl;
+  refused-read = refl;
+  port-read-high = refl;
   offset-refused = refl;
   update-refused = refl;
   port-refused = refl;

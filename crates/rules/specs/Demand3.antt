@@ -83,17 +83,17 @@ Unended = (s : State) → busy s ≡ false → endOf s ≡ s
 abbrev pub lockedWord : Field → ℕ → List Event → ℕ
 lockedWord f at es = numberOf 16 (λ (n : ℕ). overDefault (firstWrite f es) (at + n / 8) (n % 8))
 
--- at 2C: SVID2 in the low word, SID2 in the high
+-- at 2C: SVID2 in the low word, SID2 in the high; the word that is not enabled reads FFFF
 abbrev pub Read-back-2C : Type 0
-Read-back-2C = (es : List Event) → busy (run es) ≡ false → readOf (run es) SVID2 3 ≡ ok (lockedWord svid2 SVID2 es)
+Read-back-2C = (es : List Event) → busy (run es) ≡ false → readOf (run es) SVID2 3 ≡ ok (lockedWord svid2 SVID2 es + 0xFFFF0000)
 
 abbrev pub Read-back-2E : Type 0
-Read-back-2E = (es : List Event) → busy (run es) ≡ false → readOf (run es) SVID2 12 ≡ ok (lockedWord sid2 SID2 es * 2 ^ 16)
+Read-back-2E = (es : List Event) → busy (run es) ≡ false → readOf (run es) SVID2 12 ≡ ok (lockedWord sid2 SID2 es * 2 ^ 16 + 0xFFFF)
 
 -- at E8: bit 15 is the lock, whatever the other bits are
 abbrev pub Read-back-E8 : Type 0
 Read-back-E8 = (es : List Event) → busy (run es) ≡ false → (v : ℕ) × ((readOf (run es) SWSCI 3 ≡ ok v) × (bit v 15 ≡ overDefault (firstWrite swsci15 es) (SWSCI + 1) 7))
 
--- what a driver polls for: AFCTL reads FF while busy, and 0 otherwise
+-- what a driver polls for: AFCTL, in lane 0, reads FF while busy, and 0 otherwise
 abbrev pub Poll : Type 0
-Poll = (es : List Event) → readOf (run es) AFCTL 1 ≡ ok (if busy (run es) then 0xFF else 0)
+Poll = (es : List Event) → readOf (run es) AFCTL 1 ≡ ok (if busy (run es) then 0xFFFFFFFF else 0xFFFFFF00)

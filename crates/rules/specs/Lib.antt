@@ -11,4 +11,5 @@ pub mod Claims
 pub mod Answers
 pub mod Events
 pub mod History
+pub mod Lanes
 pub mod Demand3

@@ -27,11 +27,11 @@ under t i j = bit (getD t i 0) j is 1
 
 -- ---- a guest read of the dword at o, with lanes l
 
--- a bit of a lane that is not enabled
+-- a bit of a lane that is not enabled: the bus pulls it high
 abbrev pub undriven : ℕ
-undriven = 0
+undriven = 1
 
--- each enabled byte in its place, 00 in the others
+-- each enabled byte in its place, FF in the others
 abbrev pub shownValue : Bits → ℕ → ℕ → ℕ
 shownValue b o l = numberOf 32 (λ (n : ℕ). if bit l (n / 8) is 1 then b (o + n / 8) (n % 8) else undriven)
 

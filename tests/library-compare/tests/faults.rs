@@ -95,6 +95,26 @@ fn dropped_while_busy(such: impl Fn(&Call) -> bool) -> impl Fn(&mut Lent, &mut C
     }
 }
 
+/// The bytes of the lanes that aren't enabled.
+fn undriven(lanes: u32) -> u64 {
+    (0..4)
+        .filter(|lane| lanes >> lane & 1 == 0)
+        .map(|lane| 0xFF << (8 * lane))
+        .sum()
+}
+
+/// The archive, but such reads give 00 in the lanes that aren't enabled.
+fn undriven_as_zeros(such: impl Fn(&Call) -> bool) -> impl Fn(&mut Lent, &mut Call) -> u64 {
+    move |lent, call| {
+        let answer = archive(lent, call);
+        match *call {
+            _ if refused(answer) || !such(call) => answer,
+            Call::Read(_, lanes) | Call::Do(2, _, lanes, _) => answer & !undriven(lanes),
+            _ => answer,
+        }
+    }
+}
+
 #[test]
 fn no_fault_is_not_found() {
     assert!(!sessions_find(&archive));
@@ -292,12 +312,65 @@ fn a_busy_port_read_that_shows_the_held_bytes() {
 }
 
 #[test]
-fn a_busy_read_with_ones_in_lanes_that_are_not_enabled() {
+fn a_read_with_zeros_in_lanes_that_are_not_enabled() {
+    found_by_both(&undriven_as_zeros(|call| matches!(call, Call::Read(..))));
+    found_by_both(&undriven_as_zeros(|call| matches!(call, Call::Do(2, ..))));
+}
+
+#[test]
+fn a_busy_read_with_zeros_in_lanes_that_are_not_enabled() {
     found_by_both(&|lent, call| {
         let was_busy = is_busy(lent);
         let answer = archive(lent, call);
+        match *call {
+            Call::Read(_, lanes) if was_busy && !refused(answer) => answer & !undriven(lanes),
+            _ => answer,
+        }
+    });
+}
+
+#[test]
+fn lanes_0_that_read_0() {
+    found_by_both(&undriven_as_zeros(|call| matches!(call, Call::Read(_, 0))));
+    found_by_both(&undriven_as_zeros(|call| {
+        matches!(call, Call::Do(2, _, 0, _))
+    }));
+}
+
+#[test]
+fn a_refused_read_of_ones() {
+    found_by_both(&|lent, call| {
+        let answer = archive(lent, call);
         match call {
-            Call::Read(..) if was_busy && !refused(answer) => u32::MAX.into(),
+            Call::Read(..) if refused(answer) => answer | u64::from(u32::MAX),
+            _ => answer,
+        }
+    });
+}
+
+#[test]
+fn a_port_read_with_ones_above_the_width() {
+    found_by_both(&|lent, call| {
+        let answer = archive(lent, call);
+        match *call {
+            Call::Do(5, 0xCFC.., width @ (1 | 2), _) if !refused(answer) && !is_busy(lent) => {
+                answer | u64::from(u32::MAX << (8 * width))
+            }
+            _ => answer,
+        }
+    });
+}
+
+#[test]
+fn a_port_read_that_is_a_direct_read_moved_down() {
+    found_by_both(&|lent, call| {
+        let answer = archive(lent, call);
+        match *call {
+            Call::Do(5, port @ 0xCFC.., width, _) if !refused(answer) => {
+                let first = port - 0xCFC;
+                let lanes = ((1 << width) - 1) << first;
+                answer | undriven(lanes) >> (8 * first)
+            }
             _ => answer,
         }
     });

@@ -1,5 +1,8 @@
 -- The enabled bytes of a dword.
-use Rattle.plain.specs.Bytes.{drivenOf}
+use mathlib.Core.Path.{ap, _∙_}
+use Prim.Native.Nat.{ℕ}
+use Rattle.bits.specs.Bits.{blendK}
+use Rattle.plain.proofs.Bridge.{blended-is}
 use borrow.Author.Needs.{needs}
 use Rattle.plain.proofs.driven.Statement.{statement}
 use Rattle.plain.proofs.driven.Tie as tie
@@ -11,8 +14,9 @@ blend32-requires : tie.Need-blend32-requires
 blend32-requires c κs = search needs
 
 returns : tie.Need-returns
-unfolding drivenOf
-returns c = cc
+returns c =
+    let a = c .before .before .args in
+    c .blend32 .ensures ∙ ap (λ (x : ℕ). blendK 32 x 0xFFFFFFFF (a .dword)) (c .before .spread .ensures) ∙ blended-is (a .lanes) (a .dword)
 
 pub driven-spec : {M : Type 1} → statement M
 driven-spec = tie.close (tie.spec spread-requires blend32-requires returns)

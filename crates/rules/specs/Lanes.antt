@@ -1,0 +1,42 @@
+-- What a direct read gives lane by lane, and that a port caller sees nothing of the lanes that are not enabled ('How a bit behaves', as amended by W-206).
+-- The first three are said of any bits, so of the built-in function and of a sheet's device.
+use mathlib.Core.Path.{_≡_}
+use mathlib.Core.Bool.{false}
+use Prim.Native.Nat.{ℕ, _+_, _-_, _/_, _%_, _^_, _<_}
+use Rattle.bits.specs.Bits.{bit, byteOf}
+use Rattle.bits.specs.Choice.{if_then_else_, _is_}
+use Rattle.answer.specs.Refusals.{ok}
+use Rattle.rules.specs.declared.State.{State}
+use Rattle.rules.specs.Read.{readBit, readValue}
+use Rattle.rules.specs.Plain.{Bits, shownValue, readReply}
+use Rattle.rules.specs.Ports.{DATA, atLatch, dwordOf, portLanes, portReadOf}
+
+-- byte k of a dword
+abbrev pub byteAt : ℕ → ℕ → ℕ
+byteAt d k = d / 256 ^ k % 256
+
+-- 1. An accepted read gives each enabled byte in its place, and FF in the lanes that aren't enabled.
+abbrev pub In-lanes : Type 0
+In-lanes = (b : Bits) (o l k : ℕ) → ((i j : ℕ) → b i j < 2) → k < 4 → byteAt (shownValue b o l) k ≡ (if bit l k is 1 then byteOf (b (o + k)) else 0xFF)
+
+-- 2. Lanes 0 reads FFFFFFFF.
+abbrev pub No-lanes : Type 0
+No-lanes = (b : Bits) (o : ℕ) → shownValue b o 0 ≡ 0xFFFFFFFF
+
+-- 3. A refused read still returns 0.
+abbrev pub Refused-read : Type 0
+Refused-read = (o l v : ℕ) → (readReply o l v .number ≡ 0 → ⊥) → readReply o l v .value ≡ 0
+
+-- 4. A port caller sees no difference.
+
+-- a dword shows the bytes at o in the enabled lanes, whatever it has in the others: 00, or FF
+abbrev pub Shows : State → ℕ → ℕ → ℕ → Type 0
+Shows s o l d = (n : ℕ) → n < 32 → bit l (n / 8) ≡ 1 → bit d n ≡ readBit s (o + n / 8) (n % 8)
+
+-- so does a direct read
+abbrev pub Direct : Type 0
+Direct = (s : State) (o l : ℕ) → Shows s o l (readValue s o l)
+
+-- and whichever such dword it is, an accepted data read of w bytes gives the w bytes of its lanes, moved down, and 0 above the width
+abbrev pub Through-port : Type 0
+Through-port = (s : State) (p w v d : ℕ) → atLatch p w ≡ false → portReadOf s p w ≡ ok v → Shows s (dwordOf (s .latch)) (portLanes (p - DATA) w) d → v ≡ d / 256 ^ (p - DATA) % 256 ^ w
