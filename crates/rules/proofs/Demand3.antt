@@ -2,13 +2,13 @@
 use mathlib.Core.Path.{_≡_, refl, ap, _∙_}
 use mathlib.Core.List.{List}
 use mathlib.Core.Bool.{Bool, true, false, not}
-use Prim.Native.Nat.{ℕ, _+_, _*_, _/_, _%_, _^_, _<_}
+use Prim.Native.Nat.{ℕ, _+_, _/_, _%_, _<_}
 use native.Mathlib.Omega.{arith}
 use lib.Dec.{T, eqb, ltb, eqb→eq}
 use borrow.Author.Tests.{eqb-false}
 use Rattle.bits.specs.Bits.{bit, numberOf, byteOf}
 use Rattle.bits.specs.Choice.{pick, both, either, allBelow}
-use Rattle.bits.proofs.Laws.{number-ext, number-split}
+use Rattle.bits.proofs.Laws.{number-ext}
 use Rattle.bits.proofs.Below.{below, both-left, both-right, is-true, is-false}
 use Rattle.answer.specs.Refusals.{ok}
 use Rattle.map.specs.Registers.{CAPPOINT, CAPL, SVID2, SID2, AFCTL, SWSCI}
@@ -19,13 +19,13 @@ use Rattle.rules.specs.declared.State.{State}
 use Rattle.rules.specs.Access.{byte, busy, badOffset, badLanes, done, refused}
 use Rattle.rules.specs.Guest.{writtenOf, stepOf, writeOf}
 use Rattle.rules.specs.Read.{pointer, shownBit, readBit, readValue, readOf}
-use Rattle.rules.specs.Plain.{undriven}
 use Rattle.rules.specs.Host.{notHost, hostStepOf, hostOf}
 use Rattle.rules.specs.Reset.{reset, endedBit, endedOf, endOf}
-use Rattle.rules.specs.Ports.{badWidth, notOurs, atLatch, otherFunction, latched, portWriteOf}
+use Rattle.rules.specs.Ports.{badWidth, notOurs, atLatch, otherFunction, latched, portLanes, portValue, portWriteOf}
 use Rattle.rules.specs.Events.{Event, read, write, port-read, port-write, host-update, end-signal, platform-reset, happens, run}
 use Rattle.rules.specs.Demand3.{Write-once, Read-only, Computed, Aperture, Refused, Reads, Busy, Started, Ended, Poll, lockedWord, Read-back-2C, Read-back-2E, Read-back-E8}
 use Rattle.rules.specs.History.{Seen, firstWrite, overDefault}
+use Rattle.rules.proofs.Lanes.{read-part}
 use Rattle.rules.proofs.EachBit.{bit-after, bit-ended, write-state, each-bit-read}
 use Rattle.rules.proofs.Once.{once-history}
 use Rattle.rules.proofs.Fixed.{fixed-history, default-holds}
@@ -112,39 +112,6 @@ word-reads f at t h es q =
     let is : classOf (at + n / 8) (n % 8) ≡ once f = same-once (classOf (at + n / 8) (n % 8)) f (is-true _ (below 16 (λ (n : ℕ). sameClass (classOf (at + n / 8) (n % 8)) (once f)) t n k)) in
     rw (q, is, not-computed f) (once-history f (at + n / 8) (n % 8) (omega arith) (omega arith) is es))
 
--- lanes 3 are the low word, lanes 12 the high
-low-lanes : (n : ℕ) → n < 16 → (eqb (bit 3 (n / 8)) 1 ≡ true) × (eqb (bit 12 (n / 8)) 1 ≡ false)
-low-lanes n h = let t = below 16 (λ (n : ℕ). both (eqb (bit 3 (n / 8)) 1) (not (eqb (bit 12 (n / 8)) 1))) tt n h in (is-true _ (both-left (eqb (bit 3 (n / 8)) 1) _ t), is-false _ (both-right (eqb (bit 3 (n / 8)) 1) _ t))
-
-high-lanes : (n : ℕ) → n < 16 → (eqb (bit 3 ((16 + n) / 8)) 1 ≡ false) × (eqb (bit 12 ((16 + n) / 8)) 1 ≡ true)
-high-lanes n h = let t = below 16 (λ (n : ℕ). both (not (eqb (bit 3 ((16 + n) / 8)) 1)) (eqb (bit 12 ((16 + n) / 8)) 1)) tt n h in (is-false _ (both-left (not (eqb (bit 3 ((16 + n) / 8)) 1)) _ t), is-true _ (both-right (not (eqb (bit 3 ((16 + n) / 8)) 1)) _ t))
-
-module _ (s : State) (o : ℕ) where
-  abbrev lane : ℕ → ℕ → ℕ
-  lane l n = pick (eqb (bit l (n / 8)) 1) (readBit s (o + n / 8) (n % 8)) undriven
-
-  -- the word that is not enabled
-  abbrev rest : ℕ
-  rest = numberOf 16 (λ (n : ℕ). undriven)
-
-  low-word : readValue s o 3 ≡ numberOf 16 (λ (n : ℕ). readBit s (o + n / 8) (n % 8)) + rest * 2 ^ 16
-  unfolding readValue
-  low-word =
-      let high : numberOf 16 (λ (n : ℕ). lane 3 (16 + n)) ≡ rest = number-ext 16 (λ (n : ℕ). lane 3 (16 + n)) (λ (n : ℕ). undriven) (λ n h. rw (high-lanes n h .0)) in
-      let low : numberOf 16 (lane 3) ≡ numberOf 16 (λ (n : ℕ). readBit s (o + n / 8) (n % 8)) = number-ext 16 (lane 3) (λ (n : ℕ). readBit s (o + n / 8) (n % 8)) (λ n h. rw (low-lanes n h .0)) in
-      number-split 16 16 (lane 3) ∙ rw (high, low)
-
-  high-word : readValue s o 12 ≡ numberOf 16 (λ (n : ℕ). readBit s (o + 2 + n / 8) (n % 8)) * 2 ^ 16 + rest
-  unfolding readValue
-  high-word =
-      let low : numberOf 16 (lane 12) ≡ rest = number-ext 16 (lane 12) (λ (n : ℕ). undriven) (λ n h. rw (low-lanes n h .1)) in
-      let high : numberOf 16 (λ (n : ℕ). lane 12 (16 + n)) ≡ numberOf 16 (λ (n : ℕ). readBit s (o + 2 + n / 8) (n % 8)) =
-      number-ext 16 (λ (n : ℕ). lane 12 (16 + n)) (λ (n : ℕ). readBit s (o + 2 + n / 8) (n % 8)) (λ n h.
-      let i : o + (16 + n) / 8 ≡ o + 2 + n / 8 = omega arith in
-      let j : (16 + n) % 8 ≡ n % 8 = omega arith in
-      rw (high-lanes n h .1, i, j)) in
-      number-split 16 16 (lane 12) ∙ rw (high, low) (omega arith)
-
 svid2-locked : T (locked svid2 SVID2)
 unfolding rows rowAt classOf
 svid2-locked = tt
@@ -153,13 +120,14 @@ sid2-locked : T (locked sid2 SID2)
 unfolding rows rowAt classOf
 sid2-locked = tt
 
+-- lanes 3 are the low word, lanes 12 the high
 pub read-back-2C : Read-back-2C
-unfolding readOf numberOf
-read-back-2C es q = ap ok (low-word (run es) SVID2 ∙ ap (λ (x : ℕ). x + 0xFFFF0000) (word-reads svid2 SVID2 svid2-locked (omega arith) es q))
+unfolding readOf portLanes portValue numberOf
+read-back-2C es q = ap ok (read-part (run es) SVID2 0 2 2 refl ∙ omega (arith, word-reads svid2 SVID2 svid2-locked (omega arith) es q))
 
 pub read-back-2E : Read-back-2E
-unfolding readOf numberOf
-read-back-2E es q = ap ok (high-word (run es) SVID2 ∙ ap (λ (x : ℕ). x * 2 ^ 16 + 0xFFFF) (word-reads sid2 SID2 sid2-locked (omega arith) es q))
+unfolding readOf portLanes portValue numberOf
+read-back-2E es q = ap ok (read-part (run es) SVID2 2 2 0 refl ∙ omega (arith, word-reads sid2 SID2 sid2-locked (omega arith) es q))
 
 -- AFCTL has no bit that a guest write stores or the host has, and default 0
 afctl-at : ℕ → Bool

@@ -4,15 +4,15 @@ use mathlib.Core.Bool.{Bool, true, false, not}
 use Prim.Native.Nat.{ℕ, _+_, _-_, _*_, _/_, _%_, _^_, _<_, _≤_}
 use native.Mathlib.Omega.{arith}
 use lib.Dec.{T, eqb, leb, ltb}
-use borrow.Author.Tests.{eq-eqb, leb-true, le-leb, lt-ltb, not-false}
+use borrow.Author.Tests.{eq-eqb, eqb-true, leb-true, le-leb, lt-leb, lt-ltb, le-ltb, not-false}
 use Rattle.bits.specs.Bits.{bit, numberOf, byteOf}
 use Rattle.bits.specs.Choice.{pick, both, mark}
-use Rattle.bits.proofs.Laws.{number-ext, bit-number, bit-zero, bytes-part}
-use Rattle.bits.proofs.Below.{either-left, mark<2}
+use Rattle.bits.proofs.Laws.{number-ext, number-split, bit-number, bit-zero, bytes-part}
+use Rattle.bits.proofs.Below.{both-off, either-left, mark<2, mark-is}
 use Rattle.answer.specs.Refusals.{Reply, ok, no, WIDTH, NOT-OURS, OTHER-FUNCTION}
 use Rattle.rules.specs.declared.State.{State}
 use Rattle.rules.specs.Access.{badOffset, badLanes}
-use Rattle.rules.specs.Read.{readBit}
+use Rattle.rules.specs.Read.{readBit, readValue}
 use Rattle.rules.specs.Plain.{undriven, shownValue, readReply}
 use Rattle.rules.specs.Ports.{DATA, badWidth, atLatch, atData, notOurs, otherFunction, dwordOf, portLanes, portValue, portReadOf}
 use Rattle.rules.specs.Lanes.{In-lanes, No-lanes, Refused-read, Direct, Through-port}
@@ -63,21 +63,27 @@ data-within latch p w e n =
     let f = both-true (leb DATA p) (leb (p + w) 0xD00) (not-false (atData p w) (either-left (not (atData p w)) _ (rw n at e))) in
     (leb-true DATA p (f .0), leb-true (p + w) 0xD00 (f .1))
 
+-- the bits of w bytes, counted from the dword's start or from byte a
+from-byte : (s : State) (o a w : ℕ) → numberOf (8 * w) (λ (n : ℕ). readBit s (o + (8 * a + n) / 8) ((8 * a + n) % 8)) ≡ portValue s (o + a) w
+unfolding portValue
+from-byte s o a w =
+    number-ext (8 * w) (λ (n : ℕ). readBit s (o + (8 * a + n) / 8) ((8 * a + n) % 8)) (λ (n : ℕ). readBit s (o + a + n / 8) (n % 8))
+    (λ n h.
+    let i : o + (8 * a + n) / 8 ≡ o + a + n / 8 = omega arith in
+    let j : (8 * a + n) % 8 ≡ n % 8 = omega arith in
+    rw (i, j))
+
 -- w bytes from byte a of a dword that shows the bytes at o there
 pub part-shown : (s : State) (o a w d : ℕ) → ((n : ℕ) → n < 8 * w → bit d (8 * a + n) ≡ readBit s (o + (8 * a + n) / 8) ((8 * a + n) % 8)) → d / 256 ^ a % 256 ^ w ≡ portValue s (o + a) w
-unfolding portValue
-part-shown s o a w d e =
-    sym (bytes-part w a d)
-    ∙ number-ext (8 * w) (λ (n : ℕ). bit d (8 * a + n)) (λ (n : ℕ). readBit s (o + a + n / 8) (n % 8))
-    (λ n l.
-    let q : o + (8 * a + n) / 8 ≡ o + a + n / 8 = omega arith in
-    let r : (8 * a + n) % 8 ≡ n % 8 = omega arith in
-    e n l ∙ rw (q, r))
+part-shown s o a w d e = sym (bytes-part w a d) ∙ number-ext (8 * w) (λ (n : ℕ). bit d (8 * a + n)) (λ (n : ℕ). readBit s (o + (8 * a + n) / 8) ((8 * a + n) % 8)) e ∙ from-byte s o a w
 
 -- the lanes of w bytes from byte a on
-lane-on : (a w k : ℕ) → a ≤ k → k < a + w → a + w ≤ 4 → bit (portLanes a w) k ≡ 1
+lane-of : (a w k : ℕ) → k < 4 → eqb (bit (portLanes a w) k) 1 ≡ both (leb a k) (ltb k (a + w))
 unfolding portLanes
-lane-on a w k g h m = bit-number 4 (λ (k : ℕ). mark (both (leb a k) (ltb k (a + w)))) (λ k. mark<2 (both (leb a k) (ltb k (a + w)))) k (omega arith) ∙ rw (le-leb a k g, lt-ltb k (a + w) h)
+lane-of a w k h = ap (λ (x : ℕ). eqb x 1) (bit-number 4 (λ (k : ℕ). mark (both (leb a k) (ltb k (a + w)))) (λ k. mark<2 (both (leb a k) (ltb k (a + w)))) k h) ∙ mark-is (both (leb a k) (ltb k (a + w)))
+
+lane-on : (a w k : ℕ) → a ≤ k → k < a + w → a + w ≤ 4 → eqb (bit (portLanes a w) k) 1 ≡ true
+lane-on a w k g h m = lane-of a w k (omega arith) ∙ rw (le-leb a k g, lt-ltb k (a + w) h)
 
 pub through-port : Through-port
 unfolding portReadOf
@@ -92,4 +98,34 @@ through-port s p w v d n e shows = go (badWidth w) (notOurs (s .latch) p w) (oth
         let from : DATA ≤ p = f .0 in
         let to : p + w ≤ 0xD00 = f .1 in
         sym (ap (λ (x : Reply). x .value) r)
-        ∙ sym (part-shown s (dwordOf (s .latch)) (p - DATA) w d (λ m l. shows (8 * (p - DATA) + m) (omega arith) (lane-on (p - DATA) w ((8 * (p - DATA) + m) / 8) (omega arith) (omega arith) (omega arith))))
+        ∙ sym (part-shown s (dwordOf (s .latch)) (p - DATA) w d (λ m l. shows (8 * (p - DATA) + m) (omega arith) (eqb-true (bit (portLanes (p - DATA) w) ((8 * (p - DATA) + m) / 8)) 1 (lane-on (p - DATA) w ((8 * (p - DATA) + m) / 8) (omega arith) (omega arith) (omega arith)))))
+
+-- ---- a direct read with such lanes
+
+-- k bytes that are not driven
+abbrev pub ones : ℕ → ℕ
+ones k = numberOf (8 * k) (λ (n : ℕ). undriven)
+
+module _ (s : State) (o a w r : ℕ) (e : a + (w + r) ≡ 4) where
+  abbrev at : ℕ → ℕ
+  at n = pick (eqb (bit (portLanes a w) (n / 8)) 1) (readBit s (o + n / 8) (n % 8)) undriven
+
+  low : numberOf (8 * a) at ≡ ones a
+  low = number-ext (8 * a) at (λ (n : ℕ). undriven) (λ n h. rw (lane-of a w (n / 8) (omega arith), lt-leb a (n / 8) (omega arith)))
+
+  middle : numberOf (8 * w) (λ (n : ℕ). at (8 * a + n)) ≡ portValue s (o + a) w
+  middle =
+      number-ext (8 * w) (λ (n : ℕ). at (8 * a + n)) (λ (n : ℕ). readBit s (o + (8 * a + n) / 8) ((8 * a + n) % 8)) (λ n h. rw (lane-on a w ((8 * a + n) / 8) (omega arith) (omega arith) (omega arith)))
+      ∙ from-byte s o a w
+
+  high : numberOf (8 * r) (λ (n : ℕ). at (8 * a + (8 * w + n))) ≡ ones r
+  high =
+      number-ext (8 * r) (λ (n : ℕ). at (8 * a + (8 * w + n))) (λ (n : ℕ). undriven)
+      (λ n h. rw (lane-of a w ((8 * a + (8 * w + n)) / 8) (omega arith), le-ltb ((8 * a + (8 * w + n)) / 8) (a + w) (omega arith), both-off (leb a ((8 * a + (8 * w + n)) / 8))))
+
+  -- the w bytes in their place, with a bytes below and r above them that are not driven
+  pub read-part : readValue s o (portLanes a w) ≡ ones a + (portValue s (o + a) w + ones r * 2 ^ (8 * w)) * 2 ^ (8 * a)
+  unfolding readValue
+  read-part =
+      let whole : 32 ≡ 8 * a + (8 * w + 8 * r) = omega arith in
+      ap (λ (k : ℕ). numberOf k at) whole ∙ number-split (8 * a) (8 * w + 8 * r) at ∙ rw (number-split (8 * w) (8 * r) (λ (n : ℕ). at (8 * a + n)), low, middle, high)
