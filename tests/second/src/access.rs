@@ -2,6 +2,9 @@
 
 use crate::refusal::Refusal;
 
+/// What a lane reads that isn't enabled: the bus pulls it high.
+const UNDRIVEN: u8 = 0xFF;
+
 /// An accepted dword access: an aligned offset and its lanes.
 #[derive(Clone, Copy, Debug)]
 pub struct Access {
@@ -28,6 +31,13 @@ impl Access {
     /// Whether the access enables byte `at`.
     pub fn enables(self, at: usize) -> bool {
         (self.offset..self.offset + 4).contains(&at) && self.lanes >> (at - self.offset) & 1 == 1
+    }
+
+    /// The value of a direct read, from the bytes as a guest reads them: the
+    /// enabled ones in their places, and ones in the lanes that nothing drives.
+    pub fn read_value(self, byte: impl Fn(usize) -> u8) -> u32 {
+        let lane = |at| if self.enables(at) { byte(at) } else { UNDRIVEN };
+        u32::from_le_bytes([0, 1, 2, 3].map(|place| lane(self.offset + place)))
     }
 
     /// The places 0 to 31 in the dword whose bytes are enabled.

@@ -7,8 +7,9 @@
 //! 2,048 bits, a flag for each write-once field, the latch, and whether a
 //! function reset is under way.
 //!
-//! Register sheets and the time that a function reset takes are from paper
-//! `02-change-requests.md`, W-201 and W-202, alone.
+//! Register sheets, the time that a function reset takes and what undriven
+//! lanes read are from paper `02-change-requests.md`, W-201, W-202 and W-206,
+//! alone.
 //!
 //! Binaries:
 //!

@@ -49,14 +49,10 @@ impl PlainDevice {
         PlainDevice { bits }
     }
 
-    /// A guest read of a dword's enabled bytes, the others 00.
+    /// A guest read of a dword's enabled bytes, the others FF.
     pub fn guest_read(&self, offset: u32, lanes: u32) -> Result<u32, Refusal> {
         let access = Access::checked(offset, lanes)?;
-        let value = access
-            .enabled_places()
-            .filter(|place| self.bits[access.offset * 8 + place].value)
-            .fold(0, |value, place| value | 1 << place);
-        Ok(value)
+        Ok(access.read_value(|at| self.byte(at)))
     }
 
     /// A guest write of a dword's enabled bytes.
@@ -103,11 +99,14 @@ impl PlainDevice {
 
     /// The device's 256 bytes as a guest reads them.
     pub fn bytes(&self) -> [u8; BYTES] {
-        std::array::from_fn(|at| {
-            (0..8)
-                .filter(|place| self.bits[at * 8 + place].value)
-                .fold(0, |byte, place| byte | 1 << place)
-        })
+        std::array::from_fn(|at| self.byte(at))
+    }
+
+    /// One byte as a guest reads it.
+    fn byte(&self, at: usize) -> u8 {
+        (0..8)
+            .filter(|place| self.bits[at * 8 + place].value)
+            .fold(0, |byte, place| byte | 1 << place)
     }
 
     /// Carries out a command.

@@ -21,6 +21,8 @@ const LINES_TO_A_PLATFORM_RESET: u64 = 200;
 const LINES_TO_AN_END_SIGNAL: u64 = 100;
 /// One line in so many is spoiled.
 const LINES_TO_A_SPOILED: u64 = 12;
+/// One look at a dword in so many has a read of fewer lanes behind it.
+const LOOKS_TO_FEWER_LANES: u64 = 3;
 /// Sweeps of host bits start so many bytes further on for each seed, so that
 /// together a few seeds in a row sweep all bytes.
 const SWEPT_BY_A_SEED: u64 = 25;
@@ -197,6 +199,15 @@ impl Session {
         }
     }
 
+    /// A guest read of a whole dword, and now and then one of fewer lanes.
+    fn push_look(&mut self, offset: u32) {
+        self.push_read(offset, 0xF);
+        if self.rng.one_in(LOOKS_TO_FEWER_LANES) {
+            let lanes = fewer_lanes(&mut self.rng);
+            self.push_read(offset, lanes);
+        }
+    }
+
     /// First lane and width, if the access is to go through the ports and can.
     fn through_ports(&mut self, lanes: u32) -> Option<(u32, u32)> {
         if self.mode == Mode::Player || !self.rng.one_in(3) {
@@ -214,6 +225,15 @@ impl Session {
             0xF
         } else {
             self.rng.below(16) as u32
+        }
+    }
+
+    /// The lanes of a read: all of them, or fewer as often.
+    fn read_lanes(&mut self) -> u32 {
+        if self.rng.one_in(2) {
+            0xF
+        } else {
+            fewer_lanes(&mut self.rng)
         }
     }
 }
@@ -259,7 +279,7 @@ impl Session {
             if self.rng.one_in(5) {
                 self.push_write(0xA8, 1, 1);
             }
-            self.push_read(offset, 0xF);
+            self.push_look(offset);
         }
     }
 
@@ -274,9 +294,9 @@ impl Session {
                 }
                 _ => self.write_size_code(),
             }
-            self.push_read(0x18, 0xF);
+            self.push_look(0x18);
             if self.rng.one_in(3) {
-                self.push_read(0x60, 0xF);
+                self.push_look(0x60);
             }
         }
     }
@@ -321,9 +341,9 @@ impl Session {
         }
         for _ in 0..1 + self.rng.below(6) {
             let offset = self.any_guest_dword();
-            self.push_read(offset, 0xF);
+            self.push_look(offset);
         }
-        self.push_read(0xA8, 0xF);
+        self.push_look(0xA8);
     }
 
     fn any_guest_dword(&mut self) -> u32 {
@@ -338,7 +358,7 @@ impl Session {
             let any_lanes = self.rng.below(16) as u32;
             let lanes = self.rng.pick(&[0x1, 0x3, 0xF, 0xE, any_lanes]);
             self.push_write(0xD4, lanes, value);
-            self.push_read(0xD4, 0xF);
+            self.push_look(0xD4);
         }
     }
 
@@ -348,8 +368,8 @@ impl Session {
         let any_lanes = self.rng.below(16) as u32;
         let lanes = self.rng.pick(&[0x8, 0x8, 0xF, 0x7, any_lanes]);
         self.push_write(0x7C, lanes, value);
-        self.push_read(0x34, 0xF);
-        self.push_read(0x7C, 0xF);
+        self.push_look(0x34);
+        self.push_look(0x7C);
         if self.mode == Mode::Console {
             self.walks();
         }
@@ -359,7 +379,7 @@ impl Session {
     fn host_updates(&mut self) {
         for _ in 0..1 + self.rng.below(4) {
             let dword = self.push_host();
-            self.push_read(dword, 0xF);
+            self.push_look(dword);
         }
     }
 
@@ -402,13 +422,13 @@ impl Session {
             let value = self.rng.byte();
             self.push(host(self.swept, 1 << place, value));
         }
-        self.push_read(u32::from(self.swept) & !3, 0xF);
+        self.push_look(u32::from(self.swept) & !3);
         self.swept = self.swept.wrapping_add(1);
     }
 
     fn some_reads(&mut self) {
         for _ in 0..1 + self.rng.below(5) {
-            let (offset, lanes) = (aligned(&mut self.rng), self.lanes());
+            let (offset, lanes) = (aligned(&mut self.rng), self.read_lanes());
             self.push_read(offset, lanes);
         }
     }
@@ -422,7 +442,7 @@ impl Session {
             };
             let (lanes, value) = (self.lanes(), self.rng.telling_dword());
             self.push_write(offset, lanes, value);
-            self.push_read(offset, 0xF);
+            self.push_look(offset);
         }
     }
 
@@ -432,7 +452,7 @@ impl Session {
             let (lanes, value) = (self.lanes(), self.rng.telling_dword());
             if self.rng.one_in(2) {
                 self.push(write(offset, lanes, value));
-                self.push_read(offset & !3, 0xF);
+                self.push_look(offset & !3);
             } else {
                 self.push(read(offset, lanes));
             }
@@ -519,7 +539,7 @@ impl Session {
 
     /// Reads, of AFCTL often, refused accesses, or a platform reset.
     fn busy_look(&mut self) {
-        let lanes = self.lanes();
+        let lanes = self.read_lanes();
         match self.rng.below(12) {
             0..=3 => self.push_read(0xA8, lanes),
             4..=9 => self.some_reads(),
@@ -547,13 +567,14 @@ impl Session {
             let (lanes, value) = (self.lanes(), self.rng.telling_dword());
             self.push_write(dword, lanes, value);
         }
-        self.push_read(dword, 0xF);
+        self.push_look(dword);
     }
 }
 
 /// Scenes of the console.
 impl Session {
-    /// The latch, right or wrong, read back, and data accesses through it.
+    /// The latch, right or wrong, read back, and data accesses through it, some
+    /// with a read of the same bytes behind them.
     fn latch_and_data(&mut self) {
         let latch = latch(&mut self.rng);
         self.push(port_write(0x0CF8, 4, latch));
@@ -564,6 +585,9 @@ impl Session {
             let port = 0x0CFC + self.rng.below(4) as u32;
             let width = self.rng.pick(&[1, 2, 4]);
             self.push_port_access(port, width);
+            if self.rng.one_in(2) {
+                self.push(port_read(port, width));
+            }
         }
     }
 
@@ -695,10 +719,10 @@ impl Session {
     fn size_probe_of_a_base(&mut self) {
         let base = self.rng.pick(&[0x10, 0x18, 0x20]);
         self.push_write(base, 0xF, u32::MAX);
-        self.push_read(base, 0xF);
+        self.push_look(base);
         if base != 0x20 {
             self.push_write(base + 4, 0xF, u32::MAX);
-            self.push_read(base + 4, 0xF);
+            self.push_look(base + 4);
         }
         let low = self
             .rng
@@ -739,6 +763,15 @@ fn latch(rng: &mut Rng) -> u32 {
 /// A multiple of 4 below 256.
 pub(crate) fn aligned(rng: &mut Rng) -> u32 {
     rng.below(64) as u32 * 4
+}
+
+/// Not all lanes, and none of them more often than chance would have it.
+pub(crate) fn fewer_lanes(rng: &mut Rng) -> u32 {
+    if rng.one_in(5) {
+        0
+    } else {
+        rng.below(15) as u32
+    }
 }
 
 /// The mask of host bits in a byte.

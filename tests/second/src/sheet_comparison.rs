@@ -13,7 +13,7 @@ use crate::sheet::{self, lay_out, Fault, Sheet};
 use crate::sheet_session;
 
 /// A session on a good sheet has at least so many lines: more than its opening.
-const FEWEST_LINES: u64 = 700;
+const FEWEST_LINES: u64 = 800;
 /// Only every so many of the lines asked for go to shapes but the first.
 const LINES_TO_A_LINE: u64 = 10;
 /// A session that is fed in pieces comes in at most so many.

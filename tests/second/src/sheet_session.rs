@@ -9,13 +9,15 @@ use std::collections::VecDeque;
 
 use crate::malform::spoil;
 use crate::rng::Rng;
-use crate::session::{aligned, host, last_line, read, walk, write};
+use crate::session::{aligned, fewer_lanes, host, last_line, read, walk, write};
 use crate::sheet::{Register, Sheet};
 
 /// One line in so many is a platform reset: rare enough that bits matter.
 const LINES_TO_A_PLATFORM_RESET: u64 = 150;
 /// One line in so many is spoiled.
 const LINES_TO_A_SPOILED: u64 = 12;
+/// One look at a dword in so many has a read of fewer lanes behind it.
+const LOOKS_TO_FEWER_LANES: u64 = 3;
 
 /// Lines near the function reset's, all of them refused.
 const NEAR_FUNCTION_RESET: &[&[u8]] = &[
@@ -143,7 +145,7 @@ impl SheetSession<'_> {
         for _ in 0..1 + self.rng.below(4) {
             let offset = self.dword();
             self.push_write(offset);
-            self.lines.push_back(read(offset, 0xF));
+            self.push_look(offset);
         }
     }
 
@@ -152,11 +154,20 @@ impl SheetSession<'_> {
         self.lines.push_back(write(offset, lanes, value));
     }
 
+    /// A read of a whole dword, and now and then one of fewer lanes.
+    fn push_look(&mut self, offset: u32) {
+        self.lines.push_back(read(offset, 0xF));
+        if self.rng.one_in(LOOKS_TO_FEWER_LANES) {
+            let lanes = fewer_lanes(self.rng);
+            self.lines.push_back(read(offset, lanes));
+        }
+    }
+
     fn host_updates(&mut self) {
         for _ in 0..1 + self.rng.below(4) {
             let at = self.byte();
             self.push_host(at);
-            self.lines.push_back(read(u32::from(at) & !3, 0xF));
+            self.push_look(u32::from(at) & !3);
         }
     }
 
@@ -184,7 +195,7 @@ impl SheetSession<'_> {
         }
         self.lines.push_back(b"Z".to_vec());
         for at in &bytes {
-            self.lines.push_back(read(u32::from(*at) & !3, 0xF));
+            self.push_look(u32::from(*at) & !3);
         }
     }
 
@@ -205,7 +216,7 @@ impl SheetSession<'_> {
         let lanes = self.lanes();
         self.lines.push_back(read(offset, lanes));
         self.push_write(offset);
-        self.lines.push_back(read(offset & !3, 0xF));
+        self.push_look(offset & !3);
     }
 
     /// Each bit of one byte alone.
@@ -214,7 +225,7 @@ impl SheetSession<'_> {
         for place in 0..8 {
             self.lines.push_back(host(at, 1 << place, self.rng.byte()));
         }
-        self.lines.push_back(read(u32::from(at) & !3, 0xF));
+        self.push_look(u32::from(at) & !3);
     }
 
     fn read_everything(&mut self) {
@@ -236,8 +247,14 @@ fn reads_of_everything() -> impl Iterator<Item = Vec<u8>> {
     (0..=255).step_by(4).map(|offset| read(offset, 0xF))
 }
 
+/// A read of each dword, by lanes from 0 to 15 in turn.
+fn reads_by_lanes() -> impl Iterator<Item = Vec<u8>> {
+    (0..64).map(|dword| read(dword * 4, dword % 16))
+}
+
 /// Turns all bits of the guest and then all of the host, resets the function
-/// and then the platform, and reads everything at first and after each.
+/// and then the platform, and reads everything at first and after each. When
+/// all is turned it reads by lanes too.
 fn opening(sheet: &Sheet) -> Vec<Vec<u8>> {
     let turned = |at: u8| !byte_of(sheet, at, |register| &register.default);
     let dword = |at: u8| u32::from_le_bytes([0, 1, 2, 3].map(|lane| turned(at + lane)));
@@ -253,6 +270,7 @@ fn opening(sheet: &Sheet) -> Vec<Vec<u8>> {
         .chain(reads_of_everything())
         .chain(updates)
         .chain(reads_of_everything())
+        .chain(reads_by_lanes())
         .chain([b"Z".to_vec()])
         .chain(reads_of_everything())
         .chain([b"P".to_vec()])

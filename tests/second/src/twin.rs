@@ -220,14 +220,10 @@ impl Twin {
         self.busy != 0
     }
 
-    /// A guest read of a dword's enabled bytes, the others 00.
+    /// A guest read of a dword's enabled bytes, the others FF.
     pub fn guest_read(&self, offset: u32, lanes: u32) -> Result<u32, Refusal> {
         let access = Access::checked(offset, lanes)?;
-        let value = access
-            .enabled_places()
-            .filter(|place| self.reads(bit_of(access.offset, *place)))
-            .fold(0, |value, place| value | 1 << place);
-        Ok(value)
+        Ok(access.read_value(|at| self.byte(at)))
     }
 
     /// A guest write of a dword's enabled bytes; it is dropped while busy.
@@ -283,11 +279,14 @@ impl Twin {
 
     /// The function's 256 bytes as a guest reads them.
     pub fn bytes(&self) -> [u8; BYTES] {
-        std::array::from_fn(|at| {
-            (0..8)
-                .filter(|place| self.reads(bit_of(at, *place)))
-                .fold(0, |byte, place| byte | 1 << place)
-        })
+        std::array::from_fn(|at| self.byte(at))
+    }
+
+    /// One byte as a guest reads it.
+    fn byte(&self, at: usize) -> u8 {
+        (0..8)
+            .filter(|place| self.reads(bit_of(at, *place)))
+            .fold(0, |byte, place| byte | 1 << place)
     }
 
     /// What a guest reads in one bit: 1 while busy.
@@ -415,13 +414,14 @@ impl Twin {
         }
     }
 
-    /// A read of `width` bytes from a port.
+    /// A read of `width` bytes from a port, 0 above them. It isn't built on a
+    /// direct read: a port caller sees nothing of the lanes that aren't enabled.
     pub fn port_read(&self, port: u16, width: u32) -> Result<u32, Refusal> {
         match self.target(port, width)? {
             Target::Latch => Ok(self.latch),
             Target::Data { offset, first_lane } => {
-                let placed = self.guest_read(offset, lanes_of(width, first_lane))?;
-                Ok(placed >> (8 * first_lane))
+                let byte = |place| u32::from(self.byte((offset + first_lane + place) as usize));
+                Ok((0..width).fold(0, |value, place| value | byte(place) << (8 * place)))
             }
         }
     }

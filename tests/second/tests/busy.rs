@@ -36,13 +36,6 @@ fn fresh_but_busy() -> Twin {
     twin
 }
 
-/// The bytes of enabled lanes as FF.
-fn ones(lanes: u32) -> u32 {
-    (0..4)
-        .filter(|lane| lanes >> lane & 1 == 1)
-        .fold(0, |value, lane| value | 0xFF << (8 * lane))
-}
-
 /// The dword's offset on the function's latch.
 fn latch(offset: u32) -> u32 {
     0x8000_1000 | offset
@@ -237,17 +230,17 @@ fn reads_are_ones() {
             let twin = Twin::of_record(&foreign(byte, busy));
             for offset in (0..256).step_by(4) {
                 for lanes in 0..16 {
-                    assert_eq!(twin.guest_read(offset, lanes), Ok(ones(lanes)));
+                    assert_eq!(twin.guest_read(offset, lanes), Ok(u32::MAX));
                 }
             }
             assert_eq!(twin.bytes(), [0xFF; 256]);
         }
     }
     let twin = fresh_but_busy();
-    assert_eq!(twin.guest_read(0x00, 0x5), Ok(0x00FF_00FF));
-    assert_eq!(twin.guest_read(0x34, 0xE), Ok(0xFFFF_FF00));
-    assert_eq!(twin.guest_read(0xA8, 0x1), Ok(0x0000_00FF));
-    assert_eq!(twin.guest_read(0xA8, 0x0), Ok(0));
+    assert_eq!(twin.guest_read(0x00, 0x5), Ok(u32::MAX));
+    assert_eq!(twin.guest_read(0x34, 0xE), Ok(u32::MAX));
+    assert_eq!(twin.guest_read(0xA8, 0x1), Ok(u32::MAX));
+    assert_eq!(twin.guest_read(0xA8, 0x0), Ok(u32::MAX));
 }
 
 #[test]
@@ -379,7 +372,7 @@ fn host_updates_work() {
         assert_eq!(twin.record(), wanted);
         twin.end_signal();
         assert_eq!(twin.record(), Record { busy: 0, ..wanted });
-        assert_eq!(twin.guest_read(0x00, 0x4), Ok(0x00A0_0000));
+        assert_eq!(twin.guest_read(0x00, 0x4), Ok(0xFFA0_FFFF));
     }
 }
 
@@ -519,9 +512,9 @@ fn a_session_of_the_player() {
         ("W 3C 1 000000AB", "OK"),
         ("W A8 1 00000001", "OK"),
         ("R 04 F", "OK FFFFFFFF"),
-        ("R A8 1", "OK 000000FF"),
-        ("R 04 A", "OK FF00FF00"),
-        ("R 04 0", "OK 00000000"),
+        ("R A8 1", "OK FFFFFFFF"),
+        ("R 04 A", "OK FFFFFFFF"),
+        ("R 04 0", "OK FFFFFFFF"),
         ("R 05 F", "NO 5"),
         ("W 2C 3 00001234", "OK"),
         ("W 3C 1 00000055", "OK"),
@@ -531,8 +524,10 @@ fn a_session_of_the_player() {
         ("H 04 01 00", "NO 7"),
         ("E ", "NO 9"),
         ("e", "NO 9"),
-        ("R 08 1", "OK 000000FF"),
+        ("R 08 1", "OK FFFFFFFF"),
         ("E", "OK"),
+        ("R A8 1", "OK FFFFFF00"),
+        ("R A8 0", "OK FFFFFFFF"),
         ("R A8 F", "OK 00000000"),
         ("R 04 F", "OK 00900000"),
         ("R 3C F", "OK 000001AB"),
@@ -568,7 +563,7 @@ fn a_session_of_the_console() {
         ("I 0CFC 4", "OK FFFFFFFF"),
         ("I 0CFD 2", "OK 0000FFFF"),
         ("I 0CFF 1", "OK 000000FF"),
-        ("R A8 8", "OK FF000000"),
+        ("R A8 8", "OK FFFFFFFF"),
         ("I 0CF8 4", "OK 800010A8"),
         ("O 0CF8 4 8000102D", "OK"),
         ("I 0CF8 4", "OK 8000102C"),

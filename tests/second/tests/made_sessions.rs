@@ -154,8 +154,42 @@ impl Event {
         }
     }
 
-    /// What it counts as, if it has to do with being busy.
+    /// What it counts as.
     fn names(&self) -> Vec<&'static str> {
+        [self.phase_names(), self.lane_names()].concat()
+    }
+
+    /// What it counts as, if it is an accepted read of less than a dword.
+    fn lane_names(&self) -> Vec<&'static str> {
+        use Command::{PortRead, Read};
+        if !matches!(self.said, Answer::Value(_)) {
+            return vec![];
+        }
+        match (self.before.is_busy(), self.command) {
+            (false, Some(Read { lanes: 0, .. })) => vec!["read, no lanes"],
+            (true, Some(Read { lanes: 0, .. })) => vec!["read, no lanes, busy"],
+            (false, Some(Read { offset, lanes })) if lanes < 15 => {
+                if self.has_changed(offset) {
+                    vec!["read, some lanes", "read, some lanes, changed"]
+                } else {
+                    vec!["read, some lanes"]
+                }
+            }
+            (true, Some(Read { lanes, .. })) if lanes < 15 => vec!["read, some lanes, busy"],
+            (false, Some(PortRead { width: 1 | 2, .. })) => vec!["narrow port read"],
+            (true, Some(PortRead { width: 1 | 2, .. })) => vec!["narrow port read, busy"],
+            _ => vec![],
+        }
+    }
+
+    /// Whether a dword held something else than its default before the line.
+    fn has_changed(&self, offset: u32) -> bool {
+        let bytes = offset as usize..offset as usize + 4;
+        self.before.record().bytes[bytes.clone()] != Twin::fresh().record().bytes[bytes]
+    }
+
+    /// What it counts as, if it has to do with being busy.
+    fn phase_names(&self) -> Vec<&'static str> {
         match (self.before.is_busy(), self.command) {
             (_, Some(Command::End)) => self.end_names(),
             (true, command) => [vec!["busy line"], self.busy_names(command)].concat(),
@@ -214,17 +248,24 @@ impl Event {
     }
 }
 
+/// Goes through what the lines of a made session do.
+fn for_each_event(seed: u64, count: u64, mode: Mode, mut see: impl FnMut(Event)) {
+    let mut twin = Twin::fresh();
+    for line in lines(&text(seed, count, mode)) {
+        let line = line.strip_suffix(b"\n").unwrap_or(line);
+        see(Event::of(&mut twin, line, mode));
+    }
+}
+
 /// How often what happens in some sessions of together 40,000 lines.
 fn tally(mode: Mode) -> BTreeMap<&'static str, usize> {
     let mut tally = BTreeMap::new();
     for seed in 0..10 {
-        let mut twin = Twin::fresh();
-        for line in lines(&text(seed, 4_000, mode)) {
-            let line = line.strip_suffix(b"\n").unwrap_or(line);
-            for name in Event::of(&mut twin, line, mode).names() {
+        for_each_event(seed, 4_000, mode, |event| {
+            for name in event.names() {
                 *tally.entry(name).or_default() += 1;
             }
-        }
+        });
     }
     tally
 }
@@ -294,6 +335,148 @@ fn busy_phases_of_the_console() {
         ],
     );
 }
+
+#[test]
+fn reads_of_less_than_a_dword_in_the_player() {
+    check_tally(
+        Player,
+        &[
+            ("read, some lanes", 2_000),
+            ("read, some lanes, changed", 1_000),
+            ("read, some lanes, busy", 150),
+            ("read, no lanes", 600),
+            ("read, no lanes, busy", 40),
+        ],
+    );
+}
+
+#[test]
+fn reads_of_less_than_a_dword_in_the_console() {
+    check_tally(
+        Console,
+        &[
+            ("read, some lanes", 800),
+            ("read, some lanes, changed", 400),
+            ("read, some lanes, busy", 40),
+            ("read, no lanes", 300),
+            ("read, no lanes, busy", 15),
+            ("narrow port read", 520),
+            ("narrow port read, busy", 18),
+        ],
+    );
+}
+
+#[test]
+fn every_session_reads_by_all_lanes() {
+    for mode in [Player, Console] {
+        for seed in 0..5 {
+            let mut reads = [0; 16];
+            for_each_event(seed, 10_000, mode, |event| {
+                if let (Some(Command::Read { lanes, .. }), Answer::Value(_)) =
+                    (event.command, event.said)
+                {
+                    reads[lanes as usize] += 1;
+                }
+            });
+            assert!(
+                reads.iter().all(|count| *count >= 10),
+                "{mode:?}, seed {seed}: {reads:?}"
+            );
+        }
+    }
+}
+
+// ---- wrong reads
+
+/// A way to read wrongly: its name, and what a command then reads for a value.
+type Fault = (&'static str, fn(&Event, u32) -> u32);
+
+/// The bits of the lanes that aren't enabled.
+fn undriven(lanes: u32) -> u32 {
+    (0..4)
+        .filter(|lane| lanes >> lane & 1 == 0)
+        .fold(0, |bits, lane| bits | 0xFF << (8 * lane))
+}
+
+/// The bits above a port access's width.
+fn above(width: u32) -> u32 {
+    u32::MAX.checked_shl(8 * width).unwrap_or(0)
+}
+
+const DIRECT_FAULTS: [Fault; 2] = [
+    ("undriven lanes as zero", |event, value| {
+        match event.command {
+            Some(Command::Read { lanes, .. }) => value & !undriven(lanes),
+            _ => value,
+        }
+    }),
+    ("lanes 0 as zero", |event, value| match event.command {
+        Some(Command::Read { lanes: 0, .. }) => 0,
+        _ => value,
+    }),
+];
+
+/// While busy there is no such fault: what is held reads as ones.
+const FAULTS_WHEN_NOT_BUSY: [Fault; 1] = [("undriven lanes as held", |event, value| {
+    match event.command {
+        Some(Command::Read { offset, .. }) => event.before.guest_read(offset, 0xF).unwrap(),
+        _ => value,
+    }
+})];
+
+const PORT_FAULTS: [Fault; 2] = [
+    ("ones above the width", |event, value| match event.command {
+        Some(Command::PortRead { width, .. }) => value | above(width),
+        _ => value,
+    }),
+    ("a direct read moved down", |event, value| {
+        match event.command {
+            Some(Command::PortRead { port, width }) if port >= 0xCFC => {
+                value | above(width) & u32::MAX >> (8 * (port - 0xCFC))
+            }
+            _ => value,
+        }
+    }),
+];
+
+/// Which of the faults don't show in a session, in its lines that find the
+/// function busy or in those that don't.
+fn missed(seed: u64, mode: Mode, busy: bool, faults: &[Fault]) -> Vec<&'static str> {
+    let mut missed = faults.to_vec();
+    for_each_event(seed, 10_000, mode, |event| match event.said {
+        Answer::Value(value) if event.before.is_busy() == busy => {
+            missed.retain(|(_, wrong)| wrong(&event, value) == value);
+        }
+        _ => {}
+    });
+    missed.into_iter().map(|(name, _)| name).collect()
+}
+
+#[test]
+fn every_session_finds_wrong_reads() {
+    for seed in 0..5 {
+        for (mode, faults) in [
+            (Player, DIRECT_FAULTS.to_vec()),
+            (Console, [DIRECT_FAULTS, PORT_FAULTS].concat()),
+        ] {
+            let when_busy = missed(seed, mode, true, &faults);
+            assert!(when_busy.is_empty(), "{mode:?}, seed {seed}: {when_busy:?}");
+            let faults = [&faults[..], &FAULTS_WHEN_NOT_BUSY].concat();
+            let otherwise = missed(seed, mode, false, &faults);
+            assert!(otherwise.is_empty(), "{mode:?}, seed {seed}: {otherwise:?}");
+        }
+    }
+}
+
+#[test]
+fn right_reads_are_no_fault() {
+    let right: Fault = ("right", |_, value| value);
+    for busy in [true, false] {
+        assert_eq!(missed(0, Console, busy, &[right]), ["right"]);
+    }
+}
+
+// ---- ends and differences
 
 #[test]
 fn some_sessions_lack_the_last_lf() {

@@ -63,7 +63,7 @@ fn aperture_base_then_512_mb() {
 
 #[test]
 fn size_code_10_keeps_the_old() {
-    assert_eq!(last_answer(&["W 60 4 00F40000", "R 60 4"]), "OK 00F20000");
+    assert_eq!(last_answer(&["W 60 4 00F40000", "R 60 4"]), "OK FFF2FFFF");
 }
 
 #[test]
@@ -78,13 +78,13 @@ fn capability_pointer() {
 
 #[test]
 fn power_state_01_is_not_stored() {
-    assert_eq!(last_answer(&["W D4 1 00000001", "R D4 1"]), "OK 00000000");
+    assert_eq!(last_answer(&["W D4 1 00000001", "R D4 1"]), "OK FFFFFF00");
 }
 
 #[test]
 fn power_state_11_is_stored() {
     let lines = ["W D4 1 00000001", "R D4 1", "W D4 1 00000003", "R D4 1"];
-    assert_eq!(last_answer(&lines), "OK 00000003");
+    assert_eq!(last_answer(&lines), "OK FFFFFF03");
 }
 
 #[test]
@@ -102,7 +102,7 @@ fn function_reset_does_not_reopen() {
         "W 2C 3 0000FFFF",
         "R 2C 3",
     ];
-    assert_eq!(last_answer(&lines), "OK 00001234");
+    assert_eq!(last_answer(&lines), "OK FFFF1234");
 }
 
 #[test]

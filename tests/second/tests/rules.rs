@@ -152,7 +152,7 @@ fn lanes() {
         let kept = (0..4)
             .filter(|lane| lanes >> lane & 1 == 1)
             .fold(0, |m, lane| m | 0xFF << (8 * lane));
-        assert_eq!(twin.guest_read(0x00, lanes), Ok(0x01528086 & kept));
+        assert_eq!(twin.guest_read(0x00, lanes), Ok(0x01528086 | !kept));
         let fresh = after(&[(0xFC, lanes, u32::MAX)]);
         assert_eq!(dword(&fresh, 0xFC), kept);
     }

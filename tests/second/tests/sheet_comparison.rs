@@ -7,7 +7,9 @@ use std::path::PathBuf;
 use std::process::{Command, Output, Stdio};
 
 use second::difference::lines;
-use second::plain_device;
+use second::line::{parse, Answer, Command as Spoken, Mode};
+use second::plain_device::{self, PlainDevice};
+use second::player::Listener;
 use second::sheet::{read, Register, Sheet};
 use second::sheet_comparison::{cases, check, played, shown, Case, Said, Tally};
 
@@ -145,6 +147,73 @@ fn other_lines_are_found() {
         .strip_suffix(b"\n")
         .unwrap_or(b"")
         .to_vec()));
+}
+
+#[test]
+fn sessions_read_by_every_lanes() {
+    for seed in 0..4 {
+        let case = cases(seed, 10_000).next().unwrap();
+        let mut reads = [0; 16];
+        for line in lines(&case.session) {
+            let line = line.strip_suffix(b"\n").unwrap_or(line);
+            match parse(line, Mode::Sheet) {
+                Some(Spoken::Read { offset, lanes }) if offset % 4 == 0 => {
+                    reads[lanes as usize] += 1
+                }
+                _ => {}
+            }
+        }
+        assert!(reads.iter().all(|count| *count >= 25), "{case}: {reads:?}");
+        assert!(reads[0] >= 120, "{case}: {reads:?}");
+    }
+}
+
+/// What a device says that reads something else, by the lanes and the value.
+fn with_reads(case: &Case, other: impl Fn(u32, u32) -> u32) -> (Said, Said) {
+    let (mut played, shown) = ours(case);
+    if let Ok(sheet) = read(&case.sheet) {
+        let mut device = PlainDevice::fresh(&sheet);
+        let said = |line: &[u8]| {
+            let line = line.strip_suffix(b"\n").unwrap_or(line);
+            let said = match (parse(line, Mode::Sheet), device.answer(line)) {
+                (Some(Spoken::Read { lanes, .. }), Answer::Value(value)) => {
+                    Answer::Value(other(lanes, value))
+                }
+                (_, said) => said,
+            };
+            format!("{said}\n").into_bytes()
+        };
+        played.output = lines(&case.session).flat_map(said).collect();
+    }
+    (played, shown)
+}
+
+/// The value with zeros in the lanes that aren't enabled.
+fn undriven_as_zero(lanes: u32, value: u32) -> u32 {
+    (0..4)
+        .filter(|lane| lanes >> lane & 1 == 0)
+        .fold(value, |value, lane| value & !(0xFF << (8 * lane)))
+}
+
+#[test]
+fn undriven_lanes_as_zero_are_found_on_every_sheet() {
+    assert_eq!(found(|case| with_reads(case, |_, value| value)), None);
+    assert!(found(|case| with_reads(case, undriven_as_zero)).is_some());
+    // The fault in one lanes' reads alone, lanes 0 among them.
+    let good = |case: &Case| read(&case.sheet).is_ok();
+    for case in cases(0, 1_000).filter(good) {
+        for such in 0..15 {
+            let (played, shown) = with_reads(&case, |lanes, value| {
+                if lanes == such {
+                    undriven_as_zero(lanes, value)
+                } else {
+                    value
+                }
+            });
+            let found = check(&case, &played, &shown).is_err();
+            assert!(found, "{case}, lanes {such:X}");
+        }
+    }
 }
 
 // ---- faults of the reader

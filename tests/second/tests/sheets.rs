@@ -249,7 +249,7 @@ fn lanes() {
             }
         };
         let enabled = lane(0) | lane(1) | lane(2) | lane(3);
-        let wanted = format!("OK\nOK {value:08X}\nOK {:08X}\n", value & enabled);
+        let wanted = format!("OK\nOK {value:08X}\nOK {:08X}\n", value | !enabled);
         assert_eq!(say(&ONE, &session), wanted, "{lanes}");
     }
 }
@@ -275,7 +275,7 @@ fn host_updates() {
         "OK\nOK 00001F34\nOK\nOK 00000F34\nOK\nOK 0000AB34\n"
     );
     assert_eq!(say(&ONE, "H 10 01 01\nR 10 F"), "NO 7\nOK 00001234\n");
-    assert_eq!(say(&THREE, "H 06 F8 FF\nR 04 4"), "NO 7\nOK 00A50000\n");
+    assert_eq!(say(&THREE, "H 06 F8 FF\nR 04 4"), "NO 7\nOK FFA5FFFF\n");
     let mut device = PlainDevice::fresh(&read(&ONE).unwrap());
     assert_eq!(device.host_update(256, 0, 0), Err(Refusal::Offset));
     assert_eq!(device.host_update(256, 0xFF, 0), Err(Refusal::Offset));
