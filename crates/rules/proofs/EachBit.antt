@@ -90,7 +90,7 @@ pub read<2 : (s : State) (i j : ℕ) → readBit s i j < 2
 unfolding readBit shownBit
 read<2 s i j = pick-has (λ (x : ℕ). x < 2) (busy s) 1 _ (omega arith) (pick-has (λ (x : ℕ). x < 2) (sameClass (classOf i j) computed) (bit (pointer s) j) (bit (byte s i) j) (bit<2 (pointer s) j) (bit<2 (byte s i) j))
 
--- bit n of a read's value: that of the byte in its lane where the lane is enabled, and a one elsewhere; for any bits
+-- bit n of a read's value: that of the byte in its lane where the lane is enabled, an undriven one elsewhere; for any bits
 pub shown-bit : (b : Bits) → ((i j : ℕ) → b i j < 2) → (o l n : ℕ) → n < 32 → bit (shownValue b o l) n ≡ pick (eqb (bit l (n / 8)) 1) (b (o + n / 8) (n % 8)) undriven
 shown-bit b small o l n h = bit-number 32 (λ (n : ℕ). pick (eqb (bit l (n / 8)) 1) (b (o + n / 8) (n % 8)) undriven) (λ n. pick-has (λ (x : ℕ). x < 2) (eqb (bit l (n / 8)) 1) (b (o + n / 8) (n % 8)) undriven (small (o + n / 8) (n % 8)) (omega arith)) n h
 

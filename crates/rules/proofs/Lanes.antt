@@ -3,26 +3,28 @@ use mathlib.Core.Path.{_≡_, refl, sym, ap, subst, _∙_}
 use mathlib.Core.Bool.{Bool, true, false, not}
 use Prim.Native.Nat.{ℕ, _+_, _-_, _*_, _/_, _%_, _^_, _<_, _≤_}
 use native.Mathlib.Omega.{arith}
-use lib.Dec.{T, eqb, leb, ltb}
-use borrow.Author.Tests.{eq-eqb, eqb-true, leb-true, le-leb, lt-leb, lt-ltb, le-ltb, not-false}
+use lib.Dec.{T, eqb, leb, ltb, leb→le}
+use borrow.Author.Tests.{le-leb, lt-leb, lt-ltb, le-ltb, not-false}
 use Rattle.bits.specs.Bits.{bit, numberOf, byteOf}
 use Rattle.bits.specs.Choice.{pick, both, mark}
-use Rattle.bits.proofs.Laws.{number-ext, number-split, bit-number, bit-zero, bytes-part}
-use Rattle.bits.proofs.Below.{both-off, either-left, mark<2, mark-is}
+use Rattle.bits.proofs.Laws.{number-ext, number-split, bit-number, bit-zero, byte-bit, bytes-part}
+use Rattle.bits.proofs.Below.{both-left, both-right, both-off, either-left, mark<2, mark-is}
 use Rattle.answer.specs.Refusals.{Reply, ok, no, WIDTH, NOT-OURS, OTHER-FUNCTION}
 use Rattle.rules.specs.declared.State.{State}
 use Rattle.rules.specs.Access.{badOffset, badLanes}
 use Rattle.rules.specs.Read.{readBit, readValue}
-use Rattle.rules.specs.Plain.{undriven, shownValue, readReply}
+use Rattle.rules.specs.Plain.{Bits, undriven, shownValue, readReply}
 use Rattle.rules.specs.Ports.{DATA, badWidth, atLatch, atData, notOurs, otherFunction, dwordOf, portLanes, portValue, portReadOf}
-use Rattle.rules.specs.Lanes.{In-lanes, No-lanes, Refused-read, Direct, Through-port}
-use Rattle.rules.proofs.EachBit.{shown-bit, each-bit-read}
+use Rattle.rules.specs.Lanes.{In-lanes, No-lanes, Refused-read, Shows, Direct, Through-port}
+use Rattle.rules.proofs.Access.{enabled-at, byteFor-at}
+use Rattle.rules.proofs.EachBit.{shown-bit, read<2}
 
 -- ---- a direct read
 
-pub in-lanes : In-lanes
+-- byte k of the value, by bit k of the lanes
+byte-in : (b : Bits) (o l k : ℕ) → ((i j : ℕ) → b i j < 2) → k < 4 → shownValue b o l / 256 ^ k % 256 ≡ pick (eqb (bit l k) 1) (byteOf (b (o + k))) 0xFF
 unfolding numberOf
-in-lanes b o l k small h =
+byte-in b o l k small h =
     sym (bytes-part 1 k (shownValue b o l))
     ∙ number-ext 8 (λ (j : ℕ). bit (shownValue b o l) (8 * k + j)) (λ (j : ℕ). pick (eqb (bit l k) 1) (b (o + k) j) undriven)
     (λ j g.
@@ -34,6 +36,9 @@ in-lanes b o l k small h =
     go : (on : Bool) → numberOf 8 (λ (j : ℕ). pick on (b (o + k) j) undriven) ≡ pick on (byteOf (b (o + k))) 0xFF
     go true = refl
     go false = refl
+
+pub in-lanes : In-lanes
+in-lanes b o l k small h = rw (byteFor-at o (shownValue b o l) k, enabled-at o l k h) (byte-in b o l k small h)
 
 pub no-lanes : No-lanes
 unfolding numberOf
@@ -48,20 +53,17 @@ refused-read o l v n = go (badOffset o) (badLanes l) refl refl
     go false false p q = absurd (n (rw (p, q)))
 
 pub direct : Direct
-direct s o l n h e = each-bit-read s o l n h ∙ rw (eq-eqb (bit l (n / 8)) 1 e)
+unfolding readValue
+direct s o l k h e = in-lanes (readBit s) o l k (read<2 s) h ∙ rw e
 
 -- ---- a data read
-
-both-true : (a b : Bool) → both a b ≡ true → (a ≡ true) × (b ≡ true)
-both-true true b e = (refl, e)
-both-true false b e = absurd (subst T (sym e) tt)
 
 -- an access that is not refused by 3 and is not the latch's lies within CFCh to CFFh
 pub data-within : (latch p w : ℕ) → notOurs latch p w ≡ false → atLatch p w ≡ false → (DATA ≤ p) × (p + w ≤ 0xD00)
 unfolding notOurs
 data-within latch p w e n =
-    let f = both-true (leb DATA p) (leb (p + w) 0xD00) (not-false (atData p w) (either-left (not (atData p w)) _ (rw n at e))) in
-    (leb-true DATA p (f .0), leb-true (p + w) 0xD00 (f .1))
+    let t : T (atData p w) = subst T (sym (not-false (atData p w) (either-left (not (atData p w)) _ (rw n at e)))) tt in
+    (leb→le DATA p (both-left (leb DATA p) _ t), leb→le (p + w) 0xD00 (both-right (leb DATA p) _ t))
 
 -- the bits of w bytes, counted from the dword's start or from byte a
 from-byte : (s : State) (o a w : ℕ) → numberOf (8 * w) (λ (n : ℕ). readBit s (o + (8 * a + n) / 8) ((8 * a + n) % 8)) ≡ portValue s (o + a) w
@@ -85,6 +87,14 @@ lane-of a w k h = ap (λ (x : ℕ). eqb x 1) (bit-number 4 (λ (k : ℕ). mark (
 lane-on : (a w k : ℕ) → a ≤ k → k < a + w → a + w ≤ 4 → eqb (bit (portLanes a w) k) 1 ≡ true
 lane-on a w k g h m = lane-of a w k (omega arith) ∙ rw (le-leb a k g, lt-ltb k (a + w) h)
 
+-- bit n of a dword that shows the enabled bytes
+shows-bit : (s : State) (o l d : ℕ) → Shows s o l d → (n : ℕ) → n < 32 → eqb (bit l (n / 8)) 1 ≡ true → bit d n ≡ readBit s (o + n / 8) (n % 8)
+shows-bit s o l d shows n h e =
+    let whole : 8 * (n / 8) + n % 8 ≡ n = omega arith in
+    ap (bit d) (sym whole) ∙ sym (byte-bit d (n / 8) (n % 8) (omega arith))
+    ∙ ap (λ (x : ℕ). bit x (n % 8)) (sym (byteFor-at o d (n / 8)) ∙ shows (n / 8) (omega arith) (enabled-at o l (n / 8) (omega arith) ∙ e))
+    ∙ bit-number 8 (readBit s (o + n / 8)) (read<2 s (o + n / 8)) (n % 8) (omega arith)
+
 pub through-port : Through-port
 unfolding portReadOf
 through-port s p w v d n e shows = go (badWidth w) (notOurs (s .latch) p w) (otherFunction (s .latch)) refl (rw n at e)
@@ -98,7 +108,7 @@ through-port s p w v d n e shows = go (badWidth w) (notOurs (s .latch) p w) (oth
         let from : DATA ≤ p = f .0 in
         let to : p + w ≤ 0xD00 = f .1 in
         sym (ap (λ (x : Reply). x .value) r)
-        ∙ sym (part-shown s (dwordOf (s .latch)) (p - DATA) w d (λ m l. shows (8 * (p - DATA) + m) (omega arith) (eqb-true (bit (portLanes (p - DATA) w) ((8 * (p - DATA) + m) / 8)) 1 (lane-on (p - DATA) w ((8 * (p - DATA) + m) / 8) (omega arith) (omega arith) (omega arith)))))
+        ∙ sym (part-shown s (dwordOf (s .latch)) (p - DATA) w d (λ m l. shows-bit s (dwordOf (s .latch)) (portLanes (p - DATA) w) d shows (8 * (p - DATA) + m) (omega arith) (lane-on (p - DATA) w ((8 * (p - DATA) + m) / 8) (omega arith) (omega arith) (omega arith))))
 
 -- ---- a direct read with such lanes
 

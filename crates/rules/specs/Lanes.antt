@@ -1,23 +1,20 @@
 -- What a direct read gives lane by lane, and that a port caller sees nothing of the lanes that are not enabled ('How a bit behaves', as amended by W-206).
 -- The first three are said of any bits, so of the built-in function and of a sheet's device.
 use mathlib.Core.Path.{_≡_}
-use mathlib.Core.Bool.{false}
+use mathlib.Core.Bool.{true, false}
 use Prim.Native.Nat.{ℕ, _+_, _-_, _/_, _%_, _^_, _<_}
-use Rattle.bits.specs.Bits.{bit, byteOf}
-use Rattle.bits.specs.Choice.{if_then_else_, _is_}
+use Rattle.bits.specs.Bits.{byteOf}
+use Rattle.bits.specs.Choice.{if_then_else_}
 use Rattle.answer.specs.Refusals.{ok}
 use Rattle.rules.specs.declared.State.{State}
+use Rattle.rules.specs.Access.{enabled, byteFor}
 use Rattle.rules.specs.Read.{readBit, readValue}
 use Rattle.rules.specs.Plain.{Bits, shownValue, readReply}
 use Rattle.rules.specs.Ports.{DATA, atLatch, dwordOf, portLanes, portReadOf}
 
--- byte k of a dword
-abbrev pub byteAt : ℕ → ℕ → ℕ
-byteAt d k = d / 256 ^ k % 256
-
 -- 1. An accepted read gives each enabled byte in its place, and FF in the lanes that aren't enabled.
 abbrev pub In-lanes : Type 0
-In-lanes = (b : Bits) (o l k : ℕ) → ((i j : ℕ) → b i j < 2) → k < 4 → byteAt (shownValue b o l) k ≡ (if bit l k is 1 then byteOf (b (o + k)) else 0xFF)
+In-lanes = (b : Bits) (o l k : ℕ) → ((i j : ℕ) → b i j < 2) → k < 4 → byteFor o (shownValue b o l) (o + k) ≡ (if enabled o l (o + k) then byteOf (b (o + k)) else 0xFF)
 
 -- 2. Lanes 0 reads FFFFFFFF.
 abbrev pub No-lanes : Type 0
@@ -29,9 +26,9 @@ Refused-read = (o l v : ℕ) → (readReply o l v .number ≡ 0 → ⊥) → rea
 
 -- 4. A port caller sees no difference.
 
--- a dword shows the bytes at o in the enabled lanes, whatever it has in the others: 00, or FF
+-- a dword has the enabled bytes as a guest reads them, whatever it has in the other lanes: 00, or FF
 abbrev pub Shows : State → ℕ → ℕ → ℕ → Type 0
-Shows s o l d = (n : ℕ) → n < 32 → bit l (n / 8) ≡ 1 → bit d n ≡ readBit s (o + n / 8) (n % 8)
+Shows s o l d = (k : ℕ) → k < 4 → enabled o l (o + k) ≡ true → byteFor o d (o + k) ≡ byteOf (readBit s (o + k))
 
 -- so does a direct read
 abbrev pub Direct : Type 0
