@@ -21,6 +21,7 @@ extern "C" {
 #define TWIN_ASSERT(what, otherwise) _Static_assert(what, otherwise)
 #define TWIN_ALIGNOF(type) _Alignof(type)
 #endif
+#define TWIN_PLACE(type, field, at) TWIN_ASSERT(offsetof(type, field) == at, #field " stands at " #at " of a " #type)
 
 // ---- the record
 
@@ -31,37 +32,59 @@ typedef struct twin_closed {
     uint8_t swsci15;
 } twin_closed;
 
-// The 256 configuration bytes, the port latch, which write-once fields are closed, and whether a function reset runs. Every pattern of the 264 bytes is a state.
+// The memory-mapped registers of GTTMMADR's window, in ascending order of their offsets (enum twin_register). Any numbers are a state: a guest reads what is held, but ASSRREQ's bits 31:16 as 0.
+typedef struct twin_registers {
+    uint32_t fault;       // FAULT_REG: a fault's word, with valid in bit 0
+    uint32_t assrreq;     // ASSRREQ: the requests in bits 3:0
+    uint32_t mtouud;      // MTOUUD's low dword, a mirror
+    uint32_t mtouud_high; // MTOUUD's high dword, a mirror
+    uint32_t mbdsm;       // MBDSM, a mirror
+    uint32_t cycles;      // the sum of DRAM cycles
+} twin_registers;
+
+// The 256 configuration bytes, the port latch, which write-once fields are closed, whether a function reset runs, and the window's registers. Every pattern of the 288 bytes is a state.
 // Byte 34 is not what a guest reads there: CAPPOINT is computed at each read.
 //
 // busy: 0 where no function reset runs, any other number where one does. A guest write of 1 to AFCTL bit 0 starts it: busy becomes 1, and nothing else changes.
 // The host's end signal ends it: the paper's F bits take their defaults, AFCTL bit 0 and busy become 0, and all else stays, closed fields among it.
 // A platform reset ends it too. Nothing else changes busy. While busy:
-// - guest reads give FFFFFFFF, whatever the lanes, and through the port pair FF in each byte of the width and 0 above it;
-// - guest writes are answered as accepted and change nothing, through the port pair too;
+// - guest reads give FFFFFFFF, whatever the lanes, those of the window too, and through the port pair FF in each byte of the width and 0 above it;
+// - guest writes are answered as accepted and change nothing, through the port pair and in the window too;
 // - no window claims anything;
-// - host updates and the port latch work;
+// - host updates, all that the host does to the window, and the port latch work;
 // - what is refused otherwise is refused, with the same number.
 // In a record that was stored by a program without a busy byte, byte 263 is undefined: set it to 0 before use.
+//
+// window: changed by the window's own operations and by a platform reset, which makes it 0. A function reset leaves it, start and end.
+// A record that was stored by a program without a window is 24 bytes shorter: set window to 0 before use.
 typedef struct twin_state {
     uint8_t bytes[256];
     uint32_t latch;
     twin_closed closed;
     uint8_t busy;
+    twin_registers window;
 } twin_state;
 
-TWIN_ASSERT(sizeof(twin_state) == 264, "a record has 264 bytes");
+TWIN_ASSERT(sizeof(twin_state) == 288, "a record has 288 bytes");
 TWIN_ASSERT(TWIN_ALIGNOF(twin_state) == 4, "a record is aligned to 4 bytes");
-TWIN_ASSERT(offsetof(twin_state, bytes) == 0, "the configuration bytes stand first");
-TWIN_ASSERT(offsetof(twin_state, latch) == 256, "the latch stands behind the bytes");
-TWIN_ASSERT(offsetof(twin_state, closed) == 260, "the flags stand behind the latch");
-TWIN_ASSERT(offsetof(twin_state, busy) == 263, "the busy byte stands last");
-TWIN_ASSERT(offsetof(twin_closed, svid2) == 0, "SVID2's flag stands first");
-TWIN_ASSERT(offsetof(twin_closed, sid2) == 1, "SID2's flag stands second");
-TWIN_ASSERT(offsetof(twin_closed, swsci15) == 2, "the flag of SWSCI bit 15 stands third");
+TWIN_PLACE(twin_state, bytes, 0);
+TWIN_PLACE(twin_state, latch, 256);
+TWIN_PLACE(twin_state, closed, 260);
+TWIN_PLACE(twin_state, busy, 263);
+TWIN_PLACE(twin_state, window, 264);
+TWIN_PLACE(twin_closed, svid2, 0);
+TWIN_PLACE(twin_closed, sid2, 1);
+TWIN_PLACE(twin_closed, swsci15, 2);
+TWIN_PLACE(twin_registers, fault, 0);
+TWIN_PLACE(twin_registers, assrreq, 4);
+TWIN_PLACE(twin_registers, mtouud, 8);
+TWIN_PLACE(twin_registers, mtouud_high, 12);
+TWIN_PLACE(twin_registers, mbdsm, 16);
+TWIN_PLACE(twin_registers, cycles, 20);
 
 #undef TWIN_ASSERT
 #undef TWIN_ALIGNOF
+#undef TWIN_PLACE
 
 // ---- numbers
 
@@ -74,11 +97,12 @@ enum twin_refusal {
     TWIN_OTHER_FUNCTION = 4, // data access, latch bit 31 set, other bus, device or function
     TWIN_OFFSET = 5,         // direct offset above 255 or not a multiple of 4; host offset above 255
     TWIN_LANES = 6,          // lanes above 15
-    TWIN_NOT_HOST = 7,       // update mask has a bit outside the host mask
+    TWIN_NOT_HOST = 7,       // update mask, completion or fault word has a bit outside the host mask
     TWIN_NO_RANGE = 8,       // probe: low bits 2:0 are 010 or 110, or no counted bit is 1
     TWIN_LINE = 9,           // twin_do: no operation has the number, or an argument is above its greatest value
     TWIN_POINTER = 10,       // walk: a pointer leads to 04h to 3Ch
-    TWIN_ENDLESS = 11        // walk: 48 items visited and another pointer pending
+    TWIN_ENDLESS = 11,       // walk: 48 items visited and another pointer pending
+    TWIN_WINDOW_OFFSET = 16  // window offset above 3FFFFFh or not a multiple of 4
 };
 
 // The window that claims an address.
@@ -87,6 +111,16 @@ enum twin_window {
     TWIN_TRANSLATION = 1, // GTTMMADR
     TWIN_APERTURE = 2,    // GMADR
     TWIN_IO = 3           // IOBAR
+};
+
+// The registers in GTTMMADR's window by their offsets, as a claim gives them beside TWIN_TRANSLATION. Any other dword of the window reads 0 and ignores writes.
+enum twin_register {
+    TWIN_FAULT_REG = 0x04094,
+    TWIN_ASSRREQ = 0x0810C,
+    TWIN_MTOUUD = 0x108080,
+    TWIN_MTOUUD_HIGH = 0x108084,
+    TWIN_MBDSM = 0x1080C0,
+    TWIN_DRAM_CYCLES = 0x138078
 };
 
 // The kind of range that a size probe tells.
@@ -100,22 +134,28 @@ enum twin_kind {
 // The operations of twin_do, with the arguments that they look at.
 enum twin_operation {
     TWIN_DO_PLATFORM_RESET = 0,
-    TWIN_DO_WRITE = 1,        // offset, lanes, value
-    TWIN_DO_READ = 2,         // offset, lanes
-    TWIN_DO_HOST_UPDATE = 3,  // offset, mask byte, value byte
-    TWIN_DO_PORT_WRITE = 4,   // port, width, value
-    TWIN_DO_PORT_READ = 5,    // port, width
-    TWIN_DO_CLAIM_MEMORY = 6, // low dword, high dword of the address
-    TWIN_DO_CLAIM_PORT = 7,   // port
-    TWIN_DO_PROBE = 8,        // low dword, high dword
-    TWIN_DO_WALK = 9,         // wanted ID
-    TWIN_DO_END_SIGNAL = 10
+    TWIN_DO_WRITE = 1,         // offset, lanes, value
+    TWIN_DO_READ = 2,          // offset, lanes
+    TWIN_DO_HOST_UPDATE = 3,   // offset, mask byte, value byte
+    TWIN_DO_PORT_WRITE = 4,    // port, width, value
+    TWIN_DO_PORT_READ = 5,     // port, width
+    TWIN_DO_CLAIM_MEMORY = 6,  // low dword, high dword of the address
+    TWIN_DO_CLAIM_PORT = 7,    // port
+    TWIN_DO_PROBE = 8,         // low dword, high dword
+    TWIN_DO_WALK = 9,          // wanted ID
+    TWIN_DO_END_SIGNAL = 10,
+    TWIN_DO_WINDOW_WRITE = 11, // offset, lanes, value
+    TWIN_DO_WINDOW_READ = 12,  // offset, lanes
+    TWIN_DO_COMPLETE = 13,     // mask
+    TWIN_DO_FAULT = 14,        // fault word
+    TWIN_DO_ADD_CYCLES = 15,   // count
+    TWIN_DO_MIRROR_UPDATE = 16 // offset, mask, value
 };
 
 // ---- the exported functions
 // A 64-bit result has the refusal's number in bits 63:48, 0 where it is accepted, and the value in bits 47:0.
 
-// A platform reset: defaults, fields open, latch 0, not busy. It also makes any memory of a record's size the fresh state.
+// A platform reset: defaults, fields open, latch 0, not busy, the window 0. It also makes any memory of a record's size the fresh state.
 void twin_platform_reset(twin_state *s);
 
 // A guest write of the lanes' bytes at offset; lanes is 0 to 15, bit i for byte offset + i.
@@ -128,7 +168,7 @@ uint32_t twin_write_by_value(twin_state *s, uint32_t offset, uint32_t lanes, uin
 uint64_t twin_read(const twin_state *s, uint32_t offset, uint32_t lanes);
 
 // The operation of number op (enum twin_operation); arguments that it has no use for have no say.
-// TWIN_LINE for any other number, for a mask, value byte or wanted ID above 255, and for a port above FFFFh.
+// TWIN_LINE for any other number, for a host update's mask or value byte or a wanted ID above 255, and for a port above FFFFh.
 uint64_t twin_do(twin_state *s, uint32_t op, uint32_t a, uint32_t b, uint32_t c);
 
 // A size probe: the kind in bits 47:32, the exponent in bits 31:0.
@@ -272,6 +312,48 @@ static inline void twin_image(const twin_state *s, uint8_t image[256])
         for (uint32_t lane = 0; lane < 4; lane++)
             image[offset + lane] = (uint8_t)(value >> 8 * lane);
     }
+}
+
+// ---- the registers in GTTMMADR's window (enum twin_register), for guest and host
+
+// A guest write of the lanes' bytes at an offset inside the window, dropped while busy. The result is the refusal's number, 0, 16 or 6.
+// ASSRREQ: each of bits 3:0 is set where the value has it and the bit 16 higher, and lanes 0 and 2 are both enabled; no write clears one.
+// FAULT_REG: becomes 0 where lane 0 is enabled and the value's bit 0 is 0. Nothing else in the window is changed by a guest.
+static inline uint32_t twin_window_write(twin_state *s, uint32_t offset, uint32_t lanes, uint32_t value)
+{
+    return twin_reply_of(twin_do(s, TWIN_DO_WINDOW_WRITE, offset, lanes, value)).number;
+}
+
+// A guest read at an offset inside the window, of ones while busy and in the lanes that aren't enabled; refusals 16 and 6.
+static inline twin_reply twin_window_read(const twin_state *s, uint32_t offset, uint32_t lanes)
+{
+    return twin_reply_of(twin_look(s, TWIN_DO_WINDOW_READ, offset, lanes));
+}
+
+// The host completes requests: ASSRREQ's masked bits become 0. The result is the refusal's number, 0, or 7 for a mask with a bit outside Fh.
+static inline uint32_t twin_complete(twin_state *s, uint32_t mask)
+{
+    return twin_reply_of(twin_do(s, TWIN_DO_COMPLETE, mask, 0, 0)).number;
+}
+
+// The host gives a fault: FAULT_REG holds its word with bit 0, valid, set; but where valid is set already the fault is lost, though accepted.
+// The result is the refusal's number, 0, or 7 for a word with a bit outside 77FEh.
+static inline uint32_t twin_fault(twin_state *s, uint32_t word)
+{
+    return twin_reply_of(twin_do(s, TWIN_DO_FAULT, word, 0, 0)).number;
+}
+
+// The host adds to the sum of DRAM cycles, which wraps past 32 bits.
+static inline void twin_add_cycles(twin_state *s, uint32_t count)
+{
+    twin_do(s, TWIN_DO_ADD_CYCLES, count, 0, 0);
+}
+
+// A host update of a mirror: masked bits take the value's bits. The result is the refusal's number, 0, 16, or 7 for a mask with a bit outside the mirror's:
+// FFF00001h for MTOUUD and MBDSM, 7Fh for MTOUUD_HIGH, 0 for every other dword of the window.
+static inline uint32_t twin_mirror_update(twin_state *s, uint32_t offset, uint32_t mask, uint32_t value)
+{
+    return twin_reply_of(twin_do(s, TWIN_DO_MIRROR_UPDATE, offset, mask, value)).number;
 }
 
 #ifdef __cplusplus

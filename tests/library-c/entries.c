@@ -35,7 +35,7 @@ static void layout(void)
 {
     twin_state s = fresh();
     const uint8_t *bytes = (const uint8_t *)&s;
-    CHECK(sizeof(twin_state), 264);
+    CHECK(sizeof(twin_state), 288);
     CHECK(bytes[0x00], 0x86);
     CHECK(bytes[0x54], 0x9F);
     CHECK(twin_port_write(&s, 0xCF8, 4, 0x80FEDCB8), 0);
@@ -62,6 +62,20 @@ static void layout(void)
     CHECK(s.busy, 1);
     twin_end_signal(&s);
     CHECK(bytes[263], 0);
+
+    static const uint8_t none[24] = { 0 };
+    CHECK(memcmp(bytes + 264, none, sizeof none), 0);
+    static const uint8_t window[24] = {
+        0x53, 0x11, 0x00, 0x00, 0x06, 0x00, 0x00, 0x00, 0x01, 0x00, 0x60, 0x45,
+        0x71, 0x00, 0x00, 0x00, 0x00, 0x00, 0xB0, 0x9A, 0xC0, 0xD0, 0xE0, 0xF0,
+    };
+    CHECK(twin_fault(&s, 0x1152), 0);
+    CHECK(twin_window_write(&s, TWIN_ASSRREQ, 0xF, 0x00060006), 0);
+    CHECK(twin_mirror_update(&s, TWIN_MTOUUD, 0xFFF00001, 0x45600001), 0);
+    CHECK(twin_mirror_update(&s, TWIN_MTOUUD_HIGH, 0x7F, 0x71), 0);
+    CHECK(twin_mirror_update(&s, TWIN_MBDSM, 0xFFF00001, 0x9AB00000), 0);
+    twin_add_cycles(&s, 0xF0E0D0C0);
+    CHECK(memcmp(bytes + 264, window, sizeof window), 0);
 }
 
 static void access_examples(void)
@@ -301,6 +315,12 @@ static void walks(void)
 static twin_state used(void)
 {
     twin_state s = fresh();
+    twin_fault(&s, 0x77FE);
+    twin_window_write(&s, TWIN_ASSRREQ, 0xF, 0xFFFFFFFF);
+    twin_mirror_update(&s, TWIN_MTOUUD, 0xFFF00001, 0xFFFFFFFF);
+    twin_mirror_update(&s, TWIN_MTOUUD_HIGH, 0x7F, 0xFFFFFFFF);
+    twin_mirror_update(&s, TWIN_MBDSM, 0xFFF00001, 0xFFFFFFFF);
+    twin_add_cycles(&s, 0xFFFFFFFF);
     for (uint32_t offset = 0; offset < 256; offset += 4)
         if (offset != 0xA8)
             twin_guest_write(&s, offset, 0xF, 0xFFFFFFFF);
@@ -378,6 +398,8 @@ static void ends(void)
         CHECK(s.latch, 0x800010A8);
         CHECK(s.closed.svid2 + s.closed.sid2 + s.closed.swsci15, 3);
         CHECK(s.busy, 0);
+        static const twin_registers window = { 0x000077FF, 0x0000000F, 0xFFF00001, 0x0000007F, 0xFFF00001, 0xFFFFFFFF };
+        CHECK(memcmp(&s.window, &window, sizeof window), 0);
         twin_state again = s; // not busy: nothing changes
         twin_end_signal(&s);
         CHECK(same(&s, &again), 1);
@@ -529,6 +551,222 @@ static void busy_claims(uint8_t busy)
     CHECK(twin_size_probe(0xF000000C, 0xFFFFFFFF).exponent, 28); // no state has a say here
 }
 
+// ---- the window
+
+// Where a record holds the register at an offset; null where there is none.
+static uint32_t *register_at(twin_state *s, uint32_t offset)
+{
+    switch (offset) {
+    case 0x04094: return &s->window.fault;
+    case 0x0810C: return &s->window.assrreq;
+    case 0x108080: return &s->window.mtouud;
+    case 0x108084: return &s->window.mtouud_high;
+    case 0x1080C0: return &s->window.mbdsm;
+    case 0x138078: return &s->window.cycles;
+    default: return NULL;
+    }
+}
+
+// A state whose register at that offset holds a number, and whose others hold something of foreign making.
+static twin_state holding(uint32_t offset, uint32_t number, uint8_t busy)
+{
+    twin_state s = fresh();
+    s.busy = busy;
+    memset(&s.window, 0xA5, sizeof s.window);
+    if (register_at(&s, offset) != NULL)
+        *register_at(&s, offset) = number;
+    return s;
+}
+
+// What each register reads with every lanes, and dwords that are none, beside a register or with an offset that shares bits with one.
+static void window_reads(uint8_t busy)
+{
+    static const struct {
+        uint32_t offset, held, shown;
+    } rows[] = {
+        { 0x04094, 0x00000000, 0x00000000 }, { 0x04094, 0x00001153, 0x00001153 }, { 0x04094, 0xFFFFFFFF, 0xFFFFFFFF },
+        { 0x0810C, 0x0000000A, 0x0000000A }, { 0x0810C, 0x12345678, 0x00005678 }, { 0x0810C, 0xFFFFFFFF, 0x0000FFFF },
+        { 0x108080, 0x45600001, 0x45600001 }, { 0x108080, 0xFFFFFFFF, 0xFFFFFFFF }, { 0x108084, 0x00000071, 0x00000071 },
+        { 0x108084, 0xFFFFFFFF, 0xFFFFFFFF }, { 0x1080C0, 0x9AB00000, 0x9AB00000 }, { 0x1080C0, 0xFFFFFFFF, 0xFFFFFFFF },
+        { 0x138078, 0x00000000, 0x00000000 }, { 0x138078, 0x44332211, 0x44332211 }, { 0x000000, 0, 0 }, { 0x04090, 0, 0 },
+        { 0x04098, 0, 0 }, { 0x08108, 0, 0 }, { 0x08110, 0, 0 }, { 0x10807C, 0, 0 }, { 0x108088, 0, 0 }, { 0x1080BC, 0, 0 },
+        { 0x1080C4, 0, 0 }, { 0x138074, 0, 0 }, { 0x13807C, 0, 0 }, { 0x08080, 0, 0 }, { 0x38078, 0, 0 }, { 0x10810C, 0, 0 },
+        { 0x20810C, 0, 0 }, { 0x308080, 0, 0 }, { 0x3FFFFC, 0, 0 },
+    };
+    for (size_t i = 0; i < sizeof rows / sizeof *rows; i++) {
+        twin_state s = holding(rows[i].offset, rows[i].held, busy);
+        const twin_state before = s;
+        for (uint32_t lanes = 0; lanes < 16; lanes++) {
+            uint32_t wanted = busy ? 0xFFFFFFFF : in_lanes(rows[i].shown, lanes);
+            CHECK(twin_window_read(&s, rows[i].offset, lanes).number, 0);
+            CHECK(twin_window_read(&s, rows[i].offset, lanes).value, wanted);
+            CHECK(twin_do(&s, TWIN_DO_WINDOW_READ, rows[i].offset, lanes, 0x12345678), wanted);
+        }
+        CHECK(same(&s, &before), 1);
+    }
+}
+
+// The typed function of an operation that changes the window.
+static uint32_t typed(twin_state *s, uint32_t op, uint32_t a, uint32_t b, uint32_t c)
+{
+    switch (op) {
+    case TWIN_DO_WINDOW_WRITE: return twin_window_write(s, a, b, c);
+    case TWIN_DO_COMPLETE: return twin_complete(s, a);
+    case TWIN_DO_FAULT: return twin_fault(s, a);
+    case TWIN_DO_ADD_CYCLES: twin_add_cycles(s, a); return 0;
+    default: return twin_mirror_update(s, a, b, c);
+    }
+}
+
+// What each operation makes of a register, through the door and typed; every other byte of the record stays. A busy function drops what the guest writes, and hears its host.
+static void window_changes(uint8_t busy)
+{
+    static const struct {
+        uint32_t op, a, b, c, number;
+        uint32_t offset, before, after;
+    } rows[] = {
+        // ASSRREQ: value and mask, both lanes
+        { TWIN_DO_WINDOW_WRITE, 0x0810C, 0xF, 0x000F000F, 0, 0x0810C, 0x0, 0xF },
+        { TWIN_DO_WINDOW_WRITE, 0x0810C, 0x5, 0x00020002, 0, 0x0810C, 0x0, 0x2 },
+        { TWIN_DO_WINDOW_WRITE, 0x0810C, 0x7, 0xFFFFFFFF, 0, 0x0810C, 0x0, 0xF },
+        { TWIN_DO_WINDOW_WRITE, 0x0810C, 0xD, 0x000A000C, 0, 0x0810C, 0x1, 0x9 },
+        { TWIN_DO_WINDOW_WRITE, 0x0810C, 0xF, 0x40014001, 0, 0x0810C, 0x0, 0x1 },
+        { TWIN_DO_WINDOW_WRITE, 0x0810C, 0xF, 0x0000000F, 0, 0x0810C, 0x0, 0x0 },
+        { TWIN_DO_WINDOW_WRITE, 0x0810C, 0xF, 0x000F0000, 0, 0x0810C, 0x0, 0x0 },
+        { TWIN_DO_WINDOW_WRITE, 0x0810C, 0xF, 0x00010002, 0, 0x0810C, 0x0, 0x0 },
+        { TWIN_DO_WINDOW_WRITE, 0x0810C, 0xF, 0xFFF0FFF0, 0, 0x0810C, 0x0, 0x0 },
+        { TWIN_DO_WINDOW_WRITE, 0x0810C, 0x0, 0xFFFFFFFF, 0, 0x0810C, 0x0, 0x0 },
+        { TWIN_DO_WINDOW_WRITE, 0x0810C, 0x1, 0xFFFFFFFF, 0, 0x0810C, 0x0, 0x0 },
+        { TWIN_DO_WINDOW_WRITE, 0x0810C, 0x4, 0xFFFFFFFF, 0, 0x0810C, 0x0, 0x0 },
+        { TWIN_DO_WINDOW_WRITE, 0x0810C, 0xB, 0xFFFFFFFF, 0, 0x0810C, 0x0, 0x0 },
+        { TWIN_DO_WINDOW_WRITE, 0x0810C, 0xE, 0xFFFFFFFF, 0, 0x0810C, 0x0, 0x0 },
+        { TWIN_DO_WINDOW_WRITE, 0x0810C, 0xF, 0x00000000, 0, 0x0810C, 0xA, 0xA },
+        { TWIN_DO_WINDOW_WRITE, 0x0810C, 0xF, 0x000F0000, 0, 0x0810C, 0xF, 0xF },
+        { TWIN_DO_WINDOW_WRITE, 0x0810C, 0xF, 0xFFFFFFFF, 0, 0x0810C, 0x12345670, 0x1234567F },
+        // the host's completion
+        { TWIN_DO_COMPLETE, 0x0, 0xFFFFFFFF, 0xFFFFFFFF, 0, 0x0810C, 0xF, 0xF },
+        { TWIN_DO_COMPLETE, 0x2, 0x12345678, 0x9ABCDEF0, 0, 0x0810C, 0xF, 0xD },
+        { TWIN_DO_COMPLETE, 0x5, 0, 0, 0, 0x0810C, 0xA, 0xA },
+        { TWIN_DO_COMPLETE, 0xF, 0, 0, 0, 0x0810C, 0xFFFFFFFF, 0xFFFFFFF0 },
+        { TWIN_DO_COMPLETE, 0x10, 0, 0, 7, 0x0810C, 0xF, 0xF },
+        { TWIN_DO_COMPLETE, 0x10001, 0, 0, 7, 0x0810C, 0xF, 0xF },
+        { TWIN_DO_COMPLETE, 0xFFFFFFFF, 0, 0, 7, 0x0810C, 0xFFFFFFFF, 0xFFFFFFFF },
+        // FAULT_REG: the first fault is held, until the guest clears it
+        { TWIN_DO_FAULT, 0x0000, 0xFFFFFFFF, 0xFFFFFFFF, 0, 0x04094, 0x0000, 0x0001 },
+        { TWIN_DO_FAULT, 0x1152, 0x12345678, 0x9ABCDEF0, 0, 0x04094, 0x0000, 0x1153 },
+        { TWIN_DO_FAULT, 0x77FE, 0, 0, 0, 0x04094, 0x0000, 0x77FF },
+        { TWIN_DO_FAULT, 0x4008, 0, 0, 0, 0x04094, 0x1153, 0x1153 },
+        { TWIN_DO_FAULT, 0x0000, 0, 0, 0, 0x04094, 0xFFFFFFFF, 0xFFFFFFFF },
+        { TWIN_DO_FAULT, 0x1152, 0, 0, 0, 0x04094, 0xFFFFFFFE, 0x1153 },
+        { TWIN_DO_FAULT, 0x0001, 0, 0, 7, 0x04094, 0x0000, 0x0000 },
+        { TWIN_DO_FAULT, 0x0800, 0, 0, 7, 0x04094, 0x0000, 0x0000 },
+        { TWIN_DO_FAULT, 0x8000, 0, 0, 7, 0x04094, 0x0000, 0x0000 },
+        { TWIN_DO_FAULT, 0x11152, 0, 0, 7, 0x04094, 0x4009, 0x4009 },
+        { TWIN_DO_FAULT, 0xFFFFFFFF, 0, 0, 7, 0x04094, 0x0000, 0x0000 },
+        { TWIN_DO_WINDOW_WRITE, 0x04094, 0x1, 0x00000000, 0, 0x04094, 0x1153, 0x0000 },
+        { TWIN_DO_WINDOW_WRITE, 0x04094, 0xF, 0xFFFFFFFE, 0, 0x04094, 0xFFFFFFFF, 0x0000 },
+        { TWIN_DO_WINDOW_WRITE, 0x04094, 0x9, 0x00000000, 0, 0x04094, 0xFFFFFFFE, 0x0000 },
+        { TWIN_DO_WINDOW_WRITE, 0x04094, 0x1, 0x00000001, 0, 0x04094, 0x1153, 0x1153 },
+        { TWIN_DO_WINDOW_WRITE, 0x04094, 0xF, 0xFFFFFFFF, 0, 0x04094, 0x0000, 0x0000 },
+        { TWIN_DO_WINDOW_WRITE, 0x04094, 0xE, 0x00000000, 0, 0x04094, 0x1153, 0x1153 },
+        { TWIN_DO_WINDOW_WRITE, 0x04094, 0x0, 0x00000000, 0, 0x04094, 0x1153, 0x1153 },
+        // the sum wraps
+        { TWIN_DO_ADD_CYCLES, 0x00000000, 0xFFFFFFFF, 0xFFFFFFFF, 0, 0x138078, 0x00000005, 0x00000005 },
+        { TWIN_DO_ADD_CYCLES, 0x10000001, 0x12345678, 0x9ABCDEF0, 0, 0x138078, 0x00000005, 0x10000006 },
+        { TWIN_DO_ADD_CYCLES, 0x00000001, 0, 0, 0, 0x138078, 0xFFFFFFFF, 0x00000000 },
+        { TWIN_DO_ADD_CYCLES, 0xFFFFFFFF, 0, 0, 0, 0x138078, 0xFFFFFFFF, 0xFFFFFFFE },
+        { TWIN_DO_ADD_CYCLES, 0x80000000, 0, 0, 0, 0x138078, 0x80000003, 0x00000003 },
+        { TWIN_DO_WINDOW_WRITE, 0x138078, 0xF, 0x00000000, 0, 0x138078, 0x44332211, 0x44332211 },
+        { TWIN_DO_WINDOW_WRITE, 0x138078, 0xF, 0xFFFFFFFF, 0, 0x138078, 0x44332211, 0x44332211 },
+        // the mirrors, by the host alone
+        { TWIN_DO_MIRROR_UPDATE, 0x108080, 0xFFF00001, 0x45600001, 0, 0x108080, 0x00000000, 0x45600001 },
+        { TWIN_DO_MIRROR_UPDATE, 0x108080, 0x00100000, 0x00000000, 0, 0x108080, 0xFFFFFFFF, 0xFFEFFFFF },
+        { TWIN_DO_MIRROR_UPDATE, 0x108080, 0x00000000, 0xFFFFFFFF, 0, 0x108080, 0x45600001, 0x45600001 },
+        { TWIN_DO_MIRROR_UPDATE, 0x108080, 0x00080000, 0xFFFFFFFF, 7, 0x108080, 0x45600001, 0x45600001 },
+        { TWIN_DO_MIRROR_UPDATE, 0x108080, 0xFFF00003, 0xFFFFFFFF, 7, 0x108080, 0x45600001, 0x45600001 },
+        { TWIN_DO_MIRROR_UPDATE, 0x108084, 0x0000007F, 0xFFFFFFFF, 0, 0x108084, 0x00000000, 0x0000007F },
+        { TWIN_DO_MIRROR_UPDATE, 0x108084, 0x00000041, 0x00000040, 0, 0x108084, 0xFFFFFF3F, 0xFFFFFF7E },
+        { TWIN_DO_MIRROR_UPDATE, 0x108084, 0x00000080, 0x00000000, 7, 0x108084, 0x0000007F, 0x0000007F },
+        { TWIN_DO_MIRROR_UPDATE, 0x108084, 0xFFF00001, 0x00000000, 7, 0x108084, 0x0000007F, 0x0000007F },
+        { TWIN_DO_MIRROR_UPDATE, 0x1080C0, 0xFFF00001, 0x9AB00000, 0, 0x1080C0, 0xFFFFFFFF, 0x9ABFFFFE },
+        { TWIN_DO_MIRROR_UPDATE, 0x1080C0, 0x00000001, 0xFFFFFFFF, 0, 0x1080C0, 0x00000000, 0x00000001 },
+        { TWIN_DO_MIRROR_UPDATE, 0x1080C0, 0x0000007F, 0xFFFFFFFF, 7, 0x1080C0, 0x00000000, 0x00000000 },
+        { TWIN_DO_WINDOW_WRITE, 0x108080, 0xF, 0x00000000, 0, 0x108080, 0x45600001, 0x45600001 },
+        { TWIN_DO_WINDOW_WRITE, 0x108084, 0xF, 0xFFFFFFFF, 0, 0x108084, 0x00000000, 0x00000000 },
+        { TWIN_DO_WINDOW_WRITE, 0x1080C0, 0xF, 0x00000000, 0, 0x1080C0, 0x9AB00001, 0x9AB00001 },
+        // no mirror: a mask of 0 is accepted, any other is not; no register: a write is ignored
+        { TWIN_DO_MIRROR_UPDATE, 0x04094, 0x00000000, 0xFFFFFFFF, 0, 0x04094, 0x1153, 0x1153 },
+        { TWIN_DO_MIRROR_UPDATE, 0x04094, 0x00000002, 0xFFFFFFFF, 7, 0x04094, 0x1153, 0x1153 },
+        { TWIN_DO_MIRROR_UPDATE, 0x0810C, 0x00000001, 0xFFFFFFFF, 7, 0x0810C, 0x0, 0x0 },
+        { TWIN_DO_MIRROR_UPDATE, 0x138078, 0x00000001, 0xFFFFFFFF, 7, 0x138078, 0x0, 0x0 },
+        { TWIN_DO_MIRROR_UPDATE, 0x000000, 0x00000000, 0xFFFFFFFF, 0, 0, 0, 0 },
+        { TWIN_DO_MIRROR_UPDATE, 0x3FFFFC, 0x00000000, 0xFFFFFFFF, 0, 0, 0, 0 },
+        { TWIN_DO_MIRROR_UPDATE, 0x108088, 0x00000001, 0xFFFFFFFF, 7, 0, 0, 0 },
+        { TWIN_DO_WINDOW_WRITE, 0x000000, 0xF, 0xFFFFFFFF, 0, 0, 0, 0 },
+        { TWIN_DO_WINDOW_WRITE, 0x08108, 0xF, 0xFFFFFFFF, 0, 0, 0, 0 },
+        { TWIN_DO_WINDOW_WRITE, 0x08110, 0xF, 0xFFFFFFFF, 0, 0, 0, 0 },
+        { TWIN_DO_WINDOW_WRITE, 0x04090, 0xF, 0x00000000, 0, 0, 0, 0 },
+        { TWIN_DO_WINDOW_WRITE, 0x10810C, 0xF, 0xFFFFFFFF, 0, 0, 0, 0 },
+        { TWIN_DO_WINDOW_WRITE, 0x3FFFFC, 0xF, 0xFFFFFFFF, 0, 0, 0, 0 },
+    };
+    for (size_t i = 0; i < sizeof rows / sizeof *rows; i++) {
+        bool dropped = busy && rows[i].op == TWIN_DO_WINDOW_WRITE;
+        const twin_state wanted = holding(rows[i].offset, dropped ? rows[i].before : rows[i].after, busy);
+        twin_state s = holding(rows[i].offset, rows[i].before, busy);
+        CHECK(typed(&s, rows[i].op, rows[i].a, rows[i].b, rows[i].c), rows[i].number);
+        CHECK(same(&s, &wanted), 1);
+        s = holding(rows[i].offset, rows[i].before, busy);
+        CHECK(twin_do(&s, rows[i].op, rows[i].a, rows[i].b, rows[i].c), (uint64_t)rows[i].number << 48);
+        CHECK(same(&s, &wanted), 1);
+    }
+}
+
+// From a claimed address to a register: the offset that the claim gives is the window's.
+static void claimed_registers(void)
+{
+    static const uint32_t registers[] = { TWIN_FAULT_REG, TWIN_ASSRREQ, TWIN_MTOUUD, TWIN_MTOUUD_HIGH, TWIN_MBDSM, TWIN_DRAM_CYCLES };
+    const uint64_t base = 0x0000001200400000u;
+    twin_state s = fresh();
+    twin_guest_write(&s, 0x10, 0xF, (uint32_t)base);
+    twin_guest_write(&s, 0x14, 0xF, (uint32_t)(base >> 32));
+    CHECK(twin_claim_memory(&s, base + 0x0810C).window, TWIN_UNCLAIMED);
+    twin_guest_write(&s, 0x04, 0x1, 0x02);
+
+    twin_claim c = twin_claim_memory(&s, base + 0x0810C);
+    CHECK(c.window, TWIN_TRANSLATION);
+    CHECK(c.offset, 0x0810C);
+    CHECK(twin_window_write(&s, c.offset, 0xF, 0x00020002), 0);
+    CHECK(twin_window_read(&s, c.offset, 0xF).value, 0x00000002);
+    CHECK(twin_complete(&s, 0x2), 0);
+    CHECK(twin_window_read(&s, c.offset, 0xF).value, 0x00000000);
+    c = twin_claim_memory(&s, base + 0x0810E); // inside the register's dword
+    CHECK(c.window, TWIN_TRANSLATION);
+    CHECK(twin_window_read(&s, c.offset, 0xF).number, TWIN_WINDOW_OFFSET);
+
+    for (uint32_t i = 0; i < sizeof registers / sizeof *registers; i++)
+        *register_at(&s, registers[i]) = 0x11 * (i + 1);
+    for (uint32_t i = 0; i < sizeof registers / sizeof *registers; i++) {
+        c = twin_claim_memory(&s, base + registers[i]);
+        CHECK(c.window, TWIN_TRANSLATION);
+        CHECK(twin_window_read(&s, c.offset, 0xF).value, 0x11 * (i + 1));
+    }
+    c = twin_claim_memory(&s, base + 0x3FFFFC); // the last dword
+    CHECK(c.window, TWIN_TRANSLATION);
+    CHECK(twin_window_read(&s, c.offset, 0xF).number, 0);
+    CHECK(twin_window_read(&s, c.offset, 0xF).value, 0);
+    CHECK(twin_claim_memory(&s, base + 0x400000).window, TWIN_UNCLAIMED);
+
+    // a function reset takes the window's base, and leaves what the window holds
+    twin_guest_write(&s, 0xA8, 0x1, 1);
+    CHECK(twin_claim_memory(&s, base + 0x04094).window, TWIN_UNCLAIMED);
+    CHECK(twin_window_read(&s, 0x04094, 0xF).value, 0xFFFFFFFF);
+    twin_end_signal(&s);
+    CHECK(twin_claim_memory(&s, base + 0x04094).window, TWIN_UNCLAIMED);
+    CHECK(twin_window_read(&s, 0x04094, 0xF).value, 0x11);
+    twin_platform_reset(&s);
+    CHECK(twin_window_read(&s, 0x04094, 0xF).value, 0);
+}
+
 // ---- refusals
 
 // Every way to be refused leaves every byte of the record, and nothing beside the number but the walk's count. A busy function refuses no other way.
@@ -546,10 +784,18 @@ static void refusals(uint8_t busy)
         { TWIN_DO_PORT_WRITE, 0xCFC, 3, 0, 2 }, { TWIN_DO_PORT_WRITE, 0xCF8, 2, 0, 3 }, { TWIN_DO_PORT_WRITE, 0x10CF8, 4, 0, 9 },
         { TWIN_DO_PORT_READ, 0xD00, 1, 0, 3 }, { TWIN_DO_PORT_READ, 0xCFC, 4, 0, 3 }, { TWIN_DO_PORT_READ, 0x10000, 4, 0, 9 },
         { TWIN_DO_CLAIM_PORT, 0x10000, 0, 0, 9 }, { TWIN_DO_PROBE, 2, 0, 0, 8 }, { TWIN_DO_WALK, 0x100, 0, 0, 9 },
-        { 11, 0, 0, 0, 9 }, { 12, 0, 0, 0, 9 }, { 0x100, 0, 0, 0, 9 }, { 0x10A, 0, 0, 0, 9 }, { 0x8000000A, 0, 0, 0, 9 }, { 0xFFFFFFFF, 0, 0, 0, 9 },
+        { TWIN_DO_WINDOW_WRITE, 0x400000, 0xF, 0, 16 }, { TWIN_DO_WINDOW_WRITE, 0x0810D, 0xF, 0, 16 }, { TWIN_DO_WINDOW_WRITE, 0x04096, 0x10, 0, 16 },
+        { TWIN_DO_WINDOW_WRITE, 0x408094, 0x10, 0, 16 }, { TWIN_DO_WINDOW_WRITE, 0x04094, 0x10, 0, 6 }, { TWIN_DO_WINDOW_WRITE, 0x000000, 0xFFFFFFFF, 0, 6 },
+        { TWIN_DO_WINDOW_READ, 0x400000, 0xF, 0, 16 }, { TWIN_DO_WINDOW_READ, 0xFFFFFFFC, 0x0, 0, 16 }, { TWIN_DO_WINDOW_READ, 0x3FFFFF, 0xF, 0, 16 },
+        { TWIN_DO_WINDOW_READ, 0x8000810C, 0xF, 0, 16 }, { TWIN_DO_WINDOW_READ, 0x0810E, 0x10, 0, 16 }, { TWIN_DO_WINDOW_READ, 0x0810C, 0x10, 0, 6 },
+        { TWIN_DO_COMPLETE, 0x10, 0, 0, 7 }, { TWIN_DO_COMPLETE, 0x8000000F, 0, 0, 7 }, { TWIN_DO_FAULT, 0x1, 0, 0, 7 }, { TWIN_DO_FAULT, 0x80001152, 0, 0, 7 },
+        { TWIN_DO_MIRROR_UPDATE, 0x400000, 0, 0, 16 }, { TWIN_DO_MIRROR_UPDATE, 0x508080, 0x1, 0, 16 }, { TWIN_DO_MIRROR_UPDATE, 0x1080C2, 0xFFFFFFFF, 0, 16 },
+        { TWIN_DO_MIRROR_UPDATE, 0x1080C0, 0x2, 0, 7 }, { TWIN_DO_MIRROR_UPDATE, 0x108084, 0x80, 0, 7 }, { TWIN_DO_MIRROR_UPDATE, 0x000000, 0x1, 0, 7 },
+        { 17, 0, 0, 0, 9 }, { 18, 0, 0, 0, 9 }, { 0x100, 0, 0, 0, 9 }, { 0x10A, 0, 0, 0, 9 }, { 0x8000000A, 0, 0, 0, 9 }, { 0xFFFFFFFF, 0, 0, 0, 9 },
     };
     twin_state s = fresh();
     s.busy = busy;
+    memset(&s.window, 0xA5, sizeof s.window);
     twin_state before = s;
     for (size_t i = 0; i < sizeof rows / sizeof *rows; i++) {
         CHECK(twin_do(&s, rows[i].op, rows[i].a, rows[i].b, rows[i].c), rows[i].result << 48);
@@ -568,6 +814,14 @@ static void refusals(uint8_t busy)
     CHECK(twin_guest_read(&s, 0x2D, 0x0).value, 0);
     CHECK(twin_guest_read(&s, 0x2C, 0x10).number, TWIN_LANES);
     CHECK(twin_guest_read(&s, 0x2C, 0x10).value, 0);
+    CHECK(twin_window_read(&s, 0x0810E, 0x0).number, TWIN_WINDOW_OFFSET);
+    CHECK(twin_window_read(&s, 0x0810E, 0x0).value, 0);
+    CHECK(twin_window_read(&s, 0x0810C, 0x10).number, TWIN_LANES);
+    CHECK(twin_window_read(&s, 0x0810C, 0x10).value, 0);
+    CHECK(twin_window_write(&s, 0x0810D, 0x10, 0xFFFFFFFF), TWIN_WINDOW_OFFSET);
+    CHECK(twin_window_write(&s, 0x0810C, 0x10, 0xFFFFFFFF), TWIN_LANES);
+    CHECK(twin_mirror_update(&s, 0x1080C1, 0x2, 0), TWIN_WINDOW_OFFSET);
+    CHECK(twin_mirror_update(&s, 0x1080C0, 0x2, 0), TWIN_NOT_HOST);
     CHECK(same(&s, &before), 1);
 
     twin_port_write(&s, 0xCF8, 4, 0x80001100); // another function
@@ -591,6 +845,7 @@ int main(void)
     walks();
     starts();
     ends();
+    claimed_registers();
     static const uint8_t busy[] = { 1, 7, 0xFF };
     for (size_t i = 0; i < sizeof busy; i++) {
         busy_reads(busy[i]);
@@ -598,9 +853,13 @@ int main(void)
         busy_writes(busy[i]);
         busy_host(busy[i]);
         busy_claims(busy[i]);
+        window_reads(busy[i]);
+        window_changes(busy[i]);
         refusals(busy[i]);
     }
     port_widths(0);
+    window_reads(0);
+    window_changes(0);
     refusals(0);
     printf("%u checks, %u failed\n", checks, failures);
     return failures != 0;

@@ -57,6 +57,30 @@ const CLAIM_MEMORY: u32 = 6;
 const CLAIM_PORT: u32 = 7;
 const WALK: u32 = 9;
 const END_SIGNAL: u32 = 10;
+const WINDOW_WRITE: u32 = 11;
+const WINDOW_READ: u32 = 12;
+const COMPLETE: u32 = 13;
+const FAULT: u32 = 14;
+const ADD_CYCLES: u32 = 15;
+const MIRROR_UPDATE: u32 = 16;
+
+/// The registers in GTTMMADR's window by their offsets, as
+/// [`Claim::Translation`] gives them. Any other dword of the window reads 0
+/// and ignores writes.
+pub mod register {
+    /// A fault's word, with valid in bit 0.
+    pub const FAULT_REG: u32 = 0x04094;
+    /// Requests of resets, in bits 3:0.
+    pub const ASSRREQ: u32 = 0x0810C;
+    /// A mirror: the low dword of MTOUUD.
+    pub const MTOUUD: u32 = 0x108080;
+    /// A mirror: the high dword of MTOUUD.
+    pub const MTOUUD_HIGH: u32 = 0x108084;
+    /// A mirror: MBDSM.
+    pub const MBDSM: u32 = 0x1080C0;
+    /// The sum of DRAM cycles.
+    pub const DRAM_CYCLES: u32 = 0x138078;
+}
 
 /// Why an access was refused. A refusal changes nothing.
 #[derive(Clone, Copy, Debug, PartialEq, Eq, Hash)]
@@ -75,7 +99,7 @@ pub enum Refusal {
     Offset = 5,
     /// Lanes above 15.
     Lanes = 6,
-    /// Update mask has a bit outside the host mask.
+    /// Update mask, completion or fault word has a bit outside the host mask.
     NotHost = 7,
     /// Probe: low bits 2:0 are 010 or 110, or no counted bit is 1.
     NoRange = 8,
@@ -86,11 +110,13 @@ pub enum Refusal {
     Pointer = 10,
     /// Walk: 48 items visited and another pointer pending.
     Endless = 11,
+    /// Window offset above 3FFFFFh or not a multiple of 4.
+    WindowOffset = 16,
 }
 
 impl Refusal {
     /// All of them, in the order of their numbers.
-    pub const ALL: [Refusal; 11] = [
+    pub const ALL: [Refusal; 12] = [
         Refusal::Length,
         Refusal::Width,
         Refusal::NotOurs,
@@ -102,6 +128,7 @@ impl Refusal {
         Refusal::Line,
         Refusal::Pointer,
         Refusal::Endless,
+        Refusal::WindowOffset,
     ];
 
     /// The number in the paper's table.
@@ -129,6 +156,7 @@ impl fmt::Display for Refusal {
             Refusal::Line => "LINE",
             Refusal::Pointer => "POINTER",
             Refusal::Endless => "ENDLESS",
+            Refusal::WindowOffset => "WINDOW OFFSET",
         };
         write!(f, "refusal {}, {name}", self.number())
     }
@@ -189,13 +217,34 @@ pub struct Closed {
     pub swsci15: u8,
 }
 
+/// What the registers in GTTMMADR's window hold, in ascending order of their
+/// offsets; see [`register`]. Any numbers are a state: a guest reads what is
+/// held, but ASSRREQ's bits 31:16 as 0.
+#[repr(C)]
+#[derive(Clone, Copy, Debug, Default, PartialEq, Eq, Hash)]
+pub struct Registers {
+    /// FAULT_REG.
+    pub fault: u32,
+    /// ASSRREQ.
+    pub assrreq: u32,
+    /// MTOUUD's low dword.
+    pub mtouud: u32,
+    /// MTOUUD's high dword.
+    pub mtouud_high: u32,
+    /// MBDSM.
+    pub mbdsm: u32,
+    /// The sum of DRAM cycles.
+    pub cycles: u32,
+}
+
 /// The whole state of the function. Every pattern of bytes is a state.
 ///
 /// A write of 1 to AFCTL bit 0 starts a function reset, and
 /// [`Twin::end_signal`] or a platform reset ends it. Between the two the
 /// function is busy: guest reads give ones, guest writes are accepted and
-/// dropped, both through the port pair too, and nothing is claimed. Host
-/// updates and the port latch work, and refusals are the same.
+/// dropped, both through the port pair and in the window too, and nothing is
+/// claimed. All that the host does and the port latch work, and refusals are
+/// the same.
 #[repr(C)]
 #[derive(Clone, Copy, Debug, PartialEq, Eq, Hash)]
 pub struct Twin {
@@ -210,10 +259,14 @@ pub struct Twin {
     /// where one does; see [`Twin::is_busy`]. In a record that was stored by a
     /// program without a busy byte it is undefined: set it to 0.
     pub busy: u8,
+    /// The window's registers. A function reset leaves them, start and end; a
+    /// platform reset makes them 0. A record that was stored by a program
+    /// without a window is 24 bytes shorter: set them to 0.
+    pub window: Registers,
 }
 
 // Where each field stands is tested (tests/paper.rs).
-const _: () = assert!(size_of::<Twin>() == 264 && align_of::<Twin>() == 4);
+const _: () = assert!(size_of::<Twin>() == 288 && align_of::<Twin>() == 4);
 
 impl Default for Twin {
     fn default() -> Twin {
@@ -222,7 +275,7 @@ impl Default for Twin {
 }
 
 impl Twin {
-    /// The fresh state: defaults, fields open, latch 0, not busy.
+    /// The fresh state: defaults, fields open, latch 0, not busy, the window 0.
     pub fn fresh() -> Twin {
         let mut t = Twin {
             bytes: [0; 256],
@@ -233,6 +286,7 @@ impl Twin {
                 swsci15: 0,
             },
             busy: 0,
+            window: Registers::default(),
         };
         t.platform_reset();
         t
@@ -382,6 +436,81 @@ impl Twin {
     /// ```
     pub fn walk(&self, wanted: u8) -> Walk {
         ended(self.look(WALK, wanted.into(), 0))
+    }
+
+    /// A guest write of the lanes' bytes at an offset inside GTTMMADR's window,
+    /// dropped while busy; refusals 16 and 6. In ASSRREQ each of bits 3:0 is
+    /// set where the value has it and the bit 16 higher, and lanes 0 and 2 are
+    /// both enabled. FAULT_REG becomes 0 where lane 0 is enabled and the
+    /// value's bit 0 is 0. A guest changes nothing else in the window.
+    ///
+    /// ```
+    /// # use twin::{register::ASSRREQ, Claim, Refusal, Twin};
+    /// let mut t = Twin::fresh();
+    /// t.write(0x10, 0xF, 0xF7800000)?; // GTTMMADR
+    /// t.write(0x04, 0x1, 0x02)?; // memory
+    /// assert_eq!(t.claim_memory(0xF780810C), Some(Claim::Translation(ASSRREQ)));
+    /// t.window_write(ASSRREQ, 0xF, 0x00020002)?; // a request, and its mask bit
+    /// assert_eq!(t.window_read(ASSRREQ, 0xF), Ok(0x00000002));
+    /// t.complete(0x2)?; // the host's part
+    /// assert_eq!(t.window_read(ASSRREQ, 0xF), Ok(0x00000000));
+    /// assert_eq!(t.window_write(0x0810D, 0xF, 0), Err(Refusal::WindowOffset));
+    /// # Ok::<(), Refusal>(())
+    /// ```
+    pub fn window_write(&mut self, offset: u32, lanes: u32, value: u32) -> Result<(), Refusal> {
+        accepted(self.perform(WINDOW_WRITE, offset, lanes, value) >> 48)
+    }
+
+    /// A guest read at an offset inside GTTMMADR's window, of ones while busy
+    /// and in the lanes that aren't enabled; refusals 16 and 6.
+    pub fn window_read(&self, offset: u32, lanes: u32) -> Result<u32, Refusal> {
+        value(self.look(WINDOW_READ, offset, lanes))
+    }
+
+    /// The host completes requests: ASSRREQ's masked bits become 0; refusal 7
+    /// for a mask with a bit outside Fh.
+    pub fn complete(&mut self, mask: u32) -> Result<(), Refusal> {
+        accepted(self.perform(COMPLETE, mask, 0, 0) >> 48)
+    }
+
+    /// The host gives a fault: FAULT_REG holds its word with bit 0, valid,
+    /// set; but where valid is set already the fault is lost, though accepted.
+    /// Refusal 7 for a word with a bit outside 77FEh.
+    ///
+    /// ```
+    /// # use twin::{register::FAULT_REG, Twin};
+    /// let mut t = Twin::fresh();
+    /// t.fault(0x1152)?;
+    /// t.fault(0x4008)?; // lost
+    /// assert_eq!(t.window_read(FAULT_REG, 0xF), Ok(0x00001153));
+    /// t.window_write(FAULT_REG, 0x1, 0x00)?; // clears all of it
+    /// assert_eq!(t.window_read(FAULT_REG, 0xF), Ok(0x00000000));
+    /// # Ok::<(), twin::Refusal>(())
+    /// ```
+    pub fn fault(&mut self, word: u32) -> Result<(), Refusal> {
+        accepted(self.perform(FAULT, word, 0, 0) >> 48)
+    }
+
+    /// The host adds to the sum of DRAM cycles, which wraps past 32 bits.
+    pub fn add_cycles(&mut self, count: u32) {
+        self.perform(ADD_CYCLES, count, 0, 0);
+    }
+
+    /// A host update of the masked bits of a mirror; refusal 16, and 7 for a
+    /// mask with a bit outside the mirror's: FFF00001h for MTOUUD and MBDSM,
+    /// 7Fh for MTOUUD_HIGH, 0 for every other dword of the window.
+    ///
+    /// ```
+    /// # use twin::{register::{ASSRREQ, MBDSM}, Refusal, Twin};
+    /// let mut t = Twin::fresh();
+    /// assert_eq!(t.mirror_update(MBDSM, 0xFFF00001, 0x9AB00001), Ok(()));
+    /// t.window_write(MBDSM, 0xF, 0)?; // accepted, and changes nothing
+    /// assert_eq!(t.window_read(MBDSM, 0xF), Ok(0x9AB00001));
+    /// assert_eq!(t.mirror_update(ASSRREQ, 0x1, 0x1), Err(Refusal::NotHost));
+    /// # Ok::<(), Refusal>(())
+    /// ```
+    pub fn mirror_update(&mut self, offset: u32, mask: u32, value: u32) -> Result<(), Refusal> {
+        accepted(self.perform(MIRROR_UPDATE, offset, mask, value) >> 48)
     }
 
     /// The door.

@@ -45,6 +45,11 @@ SHEET-CONTENTS = 13
 abbrev pub SHEET-BODY : ℕ
 SHEET-BODY = 14
 
+-- the window's
+
+abbrev pub WINDOW-OFFSET : ℕ
+WINDOW-OFFSET = 16
+
 -- ---- a number and a value
 
 -- the refusal's number, or 0 where the entry accepts; beside it the value

@@ -28,3 +28,6 @@ pub const SHEET_LENGTH: u32 = 12;
 pub const SHEET_CONTENTS: u32 = 13;
 
 pub const SHEET_BODY: u32 = 14;
+
+// The window's.
+pub const WINDOW_OFFSET: u32 = 16;

@@ -22,7 +22,8 @@ use Rattle.rules.specs.Read.{pointer, shownBit, readBit, readValue, read
 use Rattle.rules.specs.Host.{notHost, hostStepOf, hostOf}
 use Rattle.rules.specs.Reset.{reset, endedBit, endedOf, endOf}
 use Rattle.rules.specs.Ports.{badWidth, notOurs, atLatch, otherFunction, latched, portLanes, portValue, portWriteOf}
-use Rattle.rules.specs.Events.{Event, read, write, port-read, port-write, host-update, end-signal, platform-reset, happens, run}
+use Rattle.rules.specs.Window.{badWindow, windowWriteOf, beyond, requestMask, completeOf, faultMask, faultOf, mirrorMask, mirrorUpdateOf}
+use Rattle.rules.specs.Events.{window-read, window-write, complete, fault, add-cycles, mirror-update, windowHappens, Event, read, write, port-read, port-write, host-update, end-signal, platform-reset, window, happens, run}
 use Rattle.rules.specs.Demand3.{Write-once, Read-only, Computed, Aperture, Refused, Reads, Busy, Started, Ended, Poll, lockedWord, Read-back-2C, Read-back-2E, Read-back-E8}
 use Rattle.rules.specs.History.{Seen, firstWrite, overDefault}
 use Rattle.rules.proofs.Lanes.{read-part}
@@ -54,6 +55,10 @@ aperture es = (eqb-false _ 2 (never-10 es), aligned es)
 
 -- ---- refused events and reads
 
+one : (a : Bool) (n : ℕ) (s t : State) → (pick a (refused n s) (done t) .reply .number ≡ 0 → ⊥) → pick a (refused n s) (done t) .state ≡ s
+one true n s t r = refl
+one false n s t r = absurd (r refl)
+
 two : (a b : Bool) (m n : ℕ) (s t : State) → (pick a (refused m s) (pick b (refused n s) (done t)) .reply .number ≡ 0 → ⊥) → pick a (refused m s) (pick b (refused n s) (done t)) .state ≡ s
 two true b m n s t r = refl
 two false true m n s t r = refl
@@ -67,7 +72,7 @@ three false false false true l m n s t u r = refl
 three false false false false l m n s t u r = absurd (r refl)
 
 pub refused-changes-nothing : Refused
-unfolding happens writeOf hostOf portWriteOf
+unfolding happens writeOf hostOf portWriteOf windowHappens windowWriteOf completeOf faultOf mirrorUpdateOf
 refused-changes-nothing (read o l) s r = refl
 refused-changes-nothing (write o l v) s r = two (badOffset o) (badLanes l) _ _ s (stepOf s o l v) r
 refused-changes-nothing (port-read p w) s r = refl
@@ -75,6 +80,12 @@ refused-changes-nothing (port-write p w v) s r = three (badWidth w) (notOurs (s 
 refused-changes-nothing (host-update o m v) s r = two (ltb 255 o) (notHost o m) _ _ s (hostStepOf s o m v) r
 refused-changes-nothing end-signal s r = absurd (r refl)
 refused-changes-nothing platform-reset s r = absurd (r refl)
+refused-changes-nothing (window (window-read o l)) s r = refl
+refused-changes-nothing (window (window-write o l v)) s r = two (badWindow o) (badLanes l) _ _ s _ r
+refused-changes-nothing (window (complete m)) s r = one (beyond requestMask m) _ s _ r
+refused-changes-nothing (window (fault v)) s r = one (beyond faultMask v) _ s _ r
+refused-changes-nothing (window (add-cycles n)) s r = absurd (r refl)
+refused-changes-nothing (window (mirror-update o m v)) s r = two (badWindow o) (beyond (mirrorMask o) m) _ _ s _ r
 
 pub reads-change-nothing : Reads
 unfolding happens

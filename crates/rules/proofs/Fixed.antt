@@ -14,14 +14,14 @@ use Rattle.rules.specs.Access.{byte, busy}
 use Rattle.rules.specs.Host.{notHost, hostBit, hostStepOf, hostOf}
 use Rattle.rules.specs.Reset.{endedOf, endOf}
 use Rattle.rules.specs.Fresh.{freshOf}
-use Rattle.rules.specs.Events.{Event, read, write, port-read, port-write, host-update, end-signal, platform-reset, happens, next, run}
+use Rattle.rules.specs.Events.{Event, read, write, port-read, port-write, host-update, end-signal, platform-reset, window, happens, next, run}
 use Rattle.rules.specs.History.{isReset, since, GuestWrite, none, at, guestWrite, gives, lastUpdate, orDefault}
 use Rattle.rules.specs.Past.{nothing, given, orHeld}
 use Rattle.rules.proofs.Past.{history, none-given}
 use Rattle.rules.proofs.EachBit.{bit-after, bit-hosted, bit-ended, host-state}
 use Rattle.rules.proofs.Kept.{unstored, unreturned}
 use Rattle.rules.proofs.Plain.{no-gift}
-use Rattle.rules.proofs.Runs.{reset-forgets, performed, seenOf, write-effect, port-effect}
+use Rattle.rules.proofs.Runs.{reset-forgets, performed, seenOf, write-effect, port-effect, window-effect}
 
 -- the bit that starts a function reset has default 0, and is not the host's
 start-at : ℕ → Bool
@@ -79,6 +79,7 @@ module _ (i j : ℕ) (h : i < 256) (k : j < 8) where
     event-bit (host-update o m v) s n z = host-bit s o m v
     event-bit end-signal s n z = end-bit s z
     event-bit platform-reset s n z = absurd (subst T n tt)
+    event-bit (window e) s n z = ap B (window-effect s e .1)
 
     -- no event gives a bit that is not the host's
     ungiven : isHost (classOf i j) ≡ false → (e : Event) → gives i j e ≡ nothing
@@ -90,6 +91,7 @@ module _ (i j : ℕ) (h : i < 256) (k : j < 8) where
     ungiven own (host-update o m v) = no-gift (λ (i j : ℕ). isHost (classOf i j)) i j k own o m v
     ungiven own end-signal = refl
     ungiven own platform-reset = refl
+    ungiven own (window e) = refl
 
     keeps : (e : Event) (s : State) → isReset e ≡ false → Z s → Z (happens e s .state)
     keeps e s n z t = event-bit e s n z ∙ rw (ungiven (start-is i j h k t .1) e) (z t)

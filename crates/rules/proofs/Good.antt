@@ -47,4 +47,4 @@ unfolding endedOf
 ended-good s = record { long = length-bytes (λ (i : ℕ). byteOf (endedBit s i)); fits = of-bits (endedBit s) (ended<2 s) }
 
 pub event-good : (e : Event) (s : State) → Good s → Good (happens e s .state)
-event-good e s g = event-keeps Good fresh-good (λ s o l v h. step-good s o l v) (λ s o m v e h. host-good s o m v) (λ s h. ended-good s) (λ s x h. record { long = h .long; fits = h .fits }) e s g
+event-good e s g = event-keeps Good fresh-good (λ s o l v h. step-good s o l v) (λ s o m v e h. host-good s o m v) (λ s h. ended-good s) (λ s x w h. record { long = h .long; fits = h .fits }) e s g

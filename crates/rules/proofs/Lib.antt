@@ -13,5 +13,6 @@ pub mod Once
 pub mod Fixed
 pub mod Size
 pub mod Aligned
+pub mod WindowRuns
 pub mod Demand3
 pub mod Witness

@@ -19,14 +19,14 @@ use Rattle.rules.specs.Guest.{closed, sizeOf, takenBy, takes, store, sto
 use Rattle.rules.specs.Reset.{idle, endedOf, endOf}
 use Rattle.rules.specs.Host.{notHost, hostStepOf, hostOf}
 use Rattle.rules.specs.Fresh.{freshOf}
-use Rattle.rules.specs.Events.{Event, read, write, port-read, port-write, host-update, end-signal, platform-reset, happens, runFrom, run}
+use Rattle.rules.specs.Events.{Event, read, write, port-read, port-write, host-update, end-signal, platform-reset, window, happens, runFrom, run}
 use Rattle.rules.specs.History.{isReset, anyReset, since, GuestWrite, none, at, acceptedWrite, guestWrite, atStart, seenNext, touching, firstFrom, firstWrite, overDefault}
 use Rattle.rules.proofs.Access.{enabled-within}
 use Rattle.rules.proofs.EachBit.{bit-after, bit-hosted, bit-ended, host-state}
 use Rattle.rules.proofs.Kept.{only-stored, stored-off, ended-off, host-kept}
 use Rattle.rules.specs.Past as P
 use Rattle.rules.specs.Past.{ran}
-use Rattle.rules.proofs.Runs.{run-since, since-none, performed, seenOf, write-effect, port-effect, raised-up, seen-event}
+use Rattle.rules.proofs.Runs.{run-since, since-none, performed, seenOf, write-effect, port-effect, raised-up, seen-event, window-effect}
 
 -- ---- flags
 
@@ -150,6 +150,7 @@ module _ (f : Field) (i j : ℕ) (h : i < 256) (k : j < 8) (is : classOf i j ≡
   event (host-update o m v) s n = let q = hosted s o m v in record { closes = q .0; bits = q .1 }
   event end-signal s n = let q = ended s in record { closes = q .0; bits = q .1 }
   event platform-reset s n = absurd (subst T n tt)
+  event (window e) s n = let q = window-effect s e .1 in record { closes = ap (λ (x : State). closed (x .flags) f) q; bits = ap B q }
 
   -- ---- runs without a platform reset
 

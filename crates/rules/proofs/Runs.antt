@@ -6,15 +6,17 @@ use Prim.Native.Nat.{ℕ, _-_}
 use lib.Dec.{T, eqb, ltb, eqb→eq}
 use Rattle.bits.specs.Choice.{pick, either}
 use Rattle.bits.proofs.Below.{both-right, pick-has}
-use Rattle.answer.specs.Refusals.{WIDTH, NOT-OURS, OTHER-FUNCTION}
+use Rattle.answer.specs.Refusals.{WIDTH, NOT-OURS, OTHER-FUNCTION, LANES, NOT-HOST, WINDOW-OFFSET}
 use Rattle.rules.specs.declared.State.{State}
-use Rattle.rules.specs.Access.{up, busy, badOffset, badLanes, done, refused}
+use Rattle.rules.specs.declared.Mapped.{Mapped}
+use Rattle.rules.specs.Access.{up, busy, badOffset, badLanes, Outcome, done, refused}
 use Rattle.rules.specs.Guest.{starts, raised, flagsAfter, writtenOf, stepOf, writeOf}
 use Rattle.rules.specs.Reset.{endedOf, endOf}
 use Rattle.rules.specs.Host.{notHost, hostStepOf}
 use Rattle.rules.specs.Fresh.{freshOf}
+use Rattle.rules.specs.Window.{badWindow, withWindow, windowStepOf, windowWriteOf, beyond, requestMask, completeOf, faultMask, faultOf, cyclesOf, mirrorMask, mirrorUpdateOf}
 use Rattle.rules.specs.Ports.{ADDRESS, DATA, badWidth, atLatch, notOurs, otherFunction, latchOf, latched, dwordOf, portLanes, placed, portWriteOf}
-use Rattle.rules.specs.Events.{Event, read, write, port-read, port-write, host-update, end-signal, platform-reset, happens, next, runFrom, run}
+use Rattle.rules.specs.Events.{WindowEvent, window-read, window-write, complete, fault, add-cycles, mirror-update, windowHappens, Event, read, write, port-read, port-write, host-update, end-signal, platform-reset, window, happens, next, runFrom, run}
 use Rattle.rules.specs.History.{isReset, anyReset, since, latchAfter, GuestWrite, none, at, acceptedWrite, unlessBusy, guestWrite, starting, Seen, seenNext, seen}
 use Rattle.rules.specs.Past.{ran}
 use Rattle.rules.proofs.EachBit.{write-state, host-state}
@@ -32,6 +34,7 @@ reset-forgets (port-write p w v) s e = absurd (subst T (sym e) tt)
 reset-forgets (host-update o m v) s e = absurd (subst T (sym e) tt)
 reset-forgets end-signal s e = absurd (subst T (sym e) tt)
 reset-forgets platform-reset s e = refl
+reset-forgets (window e) s h = absurd (subst T (sym h) tt)
 
 -- a run is the run of what came since
 pub run-since : (es : List Event) → run es ≡ run (since es)
@@ -52,7 +55,7 @@ abbrev pub seenOf : State → Seen
 seenOf s = record { latch = s .latch; busy = busy s }
 
 abbrev pub withLatch : ℕ → State → State
-withLatch x s = record { bytes = s .bytes; latch = x; flags = s .flags }
+withLatch x s = record { bytes = s .bytes; latch = x; flags = s .flags; window = s .window }
 
 -- 4 bytes at CF8h are of a right width
 latch-width : (p w : ℕ) → atLatch p w ≡ true → badWidth w ≡ false
@@ -95,6 +98,29 @@ port-effect s p w v = go (badWidth w) (notOurs (s .latch) p w) (atLatch p w) (ot
     go false false false false true ea eb ec = refl
     go false false false false false ea eb ec = refl
 
+-- an event in the window changes nothing else
+module _ (s : State) where
+  abbrev Only : State → Type 0
+  Only t = (w : Mapped) × (t ≡ withWindow s w)
+
+  abbrev Leaves : Outcome → Type 0
+  Leaves r = Only (r .state)
+
+  same : Only s
+  same = (s .window, refl)
+
+  unless : (b : Bool) (n : ℕ) (r : Outcome) → Leaves r → Leaves (pick b (refused n s) r)
+  unless b n r h = pick-has Leaves b (refused n s) r same h
+
+  pub window-effect : (e : WindowEvent) → Only (windowHappens e s .state)
+  unfolding windowHappens windowWriteOf windowStepOf completeOf faultOf cyclesOf mirrorUpdateOf
+  window-effect (window-read o l) = same
+  window-effect (window-write o l v) = unless (badWindow o) WINDOW-OFFSET _ (unless (badLanes l) LANES _ (pick-has Only (busy s) _ _ same (_, refl)))
+  window-effect (complete m) = unless (beyond requestMask m) NOT-HOST _ (_, refl)
+  window-effect (fault v) = unless (beyond faultMask v) NOT-HOST _ (_, refl)
+  window-effect (add-cycles n) = (_, refl)
+  window-effect (mirror-update o m v) = unless (badWindow o) WINDOW-OFFSET _ (unless (beyond (mirrorMask o) m) NOT-HOST _ (_, refl))
+
 -- ---- what is seen
 
 pub raised-up : (b : Bool) (x : ℕ) → up (raised b x) ≡ either b (up x)
@@ -126,6 +152,7 @@ seen-event end-signal s = go (busy s) refl
     go true e = refl
     go false e = rw e
 seen-event platform-reset s = refl
+seen-event (window e) s = ap seenOf (window-effect s e .1)
 
 pub seen-run : (es : List Event) → seenOf (run es) ≡ seen es
 unfolding freshOf ran
@@ -135,9 +162,16 @@ seen-run es = go es freshOf
     go [] s = refl
     go (e ∷ es) s = go es (happens e s .state) ∙ ap (λ (x : Seen). ran seenNext x es) (seen-event e s)
 
--- ---- what every run keeps: what the fresh state has, and guest writes, host updates, ends of function resets and the latch leave
+-- ---- what every event keeps, every run keeps
 
-module _ (P : State → Type 0) (fresh : P freshOf) (step : (s : State) (o l v : ℕ) → P s → P (writtenOf s o l v)) (host : (s : State) (o m v : ℕ) → notHost o m ≡ false → P s → P (hostStepOf s o m v)) (ended : (s : State) → P s → P (endedOf s)) (latch : (s : State) (x : ℕ) → P s → P (withLatch x s)) where
+pub each-keeps : (P : State → Type 0) → ((e : Event) (s : State) → P s → P (happens e s .state)) → (es : List Event) (s : State) → P s → P (runFrom s es)
+unfolding ran
+each-keeps P event [] s h = h
+each-keeps P event (e ∷ es) s h = each-keeps P event es (happens e s .state) (event e s h)
+
+-- ---- what every run keeps: what the fresh state has, and guest writes, host updates and ends of function resets leave; latch and window have no say
+
+module _ (P : State → Type 0) (fresh : P freshOf) (step : (s : State) (o l v : ℕ) → P s → P (writtenOf s o l v)) (host : (s : State) (o m v : ℕ) → notHost o m ≡ false → P s → P (hostStepOf s o m v)) (ended : (s : State) → P s → P (endedOf s)) (beside : (s : State) (x : ℕ) (w : Mapped) → P s → P (record { bytes = s .bytes; latch = x; flags = s .flags; window = w })) where
   performed-keeps : (g : GuestWrite) (s : State) → P s → P (performed g s)
   performed-keeps none s h = h
   performed-keeps (at o l v) s h = step s o l v h
@@ -147,7 +181,7 @@ module _ (P : State → Type 0) (fresh : P freshOf) (step : (s : State) (o l v :
   event-keeps (read o l) s h = h
   event-keeps (write o l v) s h = rw (write-effect s o l v) (performed-keeps (guestWrite (seenOf s) (write o l v)) s h)
   event-keeps (port-read p w) s h = h
-  event-keeps (port-write p w v) s h = rw (port-effect s p w v) (latch _ _ (performed-keeps (guestWrite (seenOf s) (port-write p w v)) s h))
+  event-keeps (port-write p w v) s h = rw (port-effect s p w v) (beside _ _ _ (performed-keeps (guestWrite (seenOf s) (port-write p w v)) s h))
   event-keeps (host-update o m v) s h = rw (host-state s o m v) (go (ltb 255 o) (notHost o m) refl)
     where
       go : (a b : Bool) → notHost o m ≡ b → P (pick (not (either a b)) (hostStepOf s o m v) s)
@@ -156,11 +190,7 @@ module _ (P : State → Type 0) (fresh : P freshOf) (step : (s : State) (o l v :
       go false false e = host s o m v e h
   event-keeps end-signal s h = pick-has P (busy s) (endedOf s) s (ended s h) h
   event-keeps platform-reset s h = fresh
-
-  runFrom-keeps : (es : List Event) (s : State) → P s → P (runFrom s es)
-  unfolding ran
-  runFrom-keeps [] s h = h
-  runFrom-keeps (e ∷ es) s h = runFrom-keeps es (happens e s .state) (event-keeps e s h)
+  event-keeps (window e) s h = rw (window-effect s e .1) (beside s (s .latch) _ h)
 
   pub always : (es : List Event) → P (run es)
-  always es = runFrom-keeps es freshOf fresh
+  always es = each-keeps P event-keeps es freshOf fresh

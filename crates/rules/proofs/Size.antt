@@ -108,7 +108,7 @@ module _ (i j b : ℕ) (h : i < 256) (k : j < 8) (is : classOf i j ≡ aperture 
   fresh-stands = record { fits = omega arith; clear = λ t. zero-default }
 
   pub taken-zero : (es : List Event) → takenBy (sizeOf (byte (run es) MSAC)) (aperture b) ≡ true → bit (byte (run es) i) j ≡ 0
-  taken-zero es = always Stands fresh-stands step-stands host-stands ended-stands (λ s x st. record { fits = st .fits; clear = st .clear }) es .clear
+  taken-zero es = always Stands fresh-stands step-stands host-stands ended-stands (λ s x w st. record { fits = st .fits; clear = st .clear }) es .clear
 
 -- ---- the code is never 10
 
@@ -155,4 +155,4 @@ unfolding freshOf defaults rows rowAt
 legal-fresh = record { fits = omega arith; code = refl }
 
 pub never-10 : (es : List Event) → eqb (sizeOf (byte (run es) MSAC)) 2 ≡ false
-never-10 es = always Legal legal-fresh legal-step legal-host legal-ended (λ s x st. record { fits = st .fits; code = st .code }) es .code
+never-10 es = always Legal legal-fresh legal-step legal-host legal-ended (λ s x w st. record { fits = st .fits; code = st .code }) es .code

@@ -1,5 +1,5 @@
 -- The paper's number and values of each answer ('Refusal numbers'), case by case.
-use Rattle.answer.specs.Refusals.{Reply, ok, no, WIDTH, NOT-OURS, OTHER-FUNCTION, OFFSET, LANES, NOT-HOST}
+use Rattle.answer.specs.Refusals.{Reply, ok, no, WIDTH, NOT-OURS, OTHER-FUNCTION, OFFSET, LANES, NOT-HOST, WINDOW-OFFSET}
 use Rattle.rules.specs.declared.ReadAnswer.{ReadAnswer}
 use Rattle.rules.specs.declared.ReadAnswer.the-variants as R
 use Rattle.rules.specs.declared.WriteAnswer.{WriteAnswer}
@@ -13,6 +13,11 @@ use Rattle.rules.specs.declared.PortReadAnswer.the-variants as PR
 use Rattle.rules.specs.declared.PortWriteAnswer.{PortWriteAnswer}
 use Rattle.rules.specs.declared.PortWriteAnswer.the-variants as PW
 use Rattle.rules.specs.declared.PortWritten.{PortWritten}
+use Rattle.rules.specs.declared.WindowReadAnswer.{WindowReadAnswer}
+use Rattle.rules.specs.declared.WindowReadAnswer.the-variants as WR
+use Rattle.rules.specs.declared.WindowAnswer.{WindowAnswer}
+use Rattle.rules.specs.declared.WindowAnswer.the-variants as WA
+use Rattle.rules.specs.declared.Reached.{Reached}
 use Rattle.rules.specs.declared.Claim.{Claim}
 use Rattle.rules.specs.declared.Claim.the-variants as C
 use Rattle.rules.specs.Access.{Outcome}
@@ -45,6 +50,17 @@ portWriteSays PW.Width = no WIDTH
 portWriteSays PW.NotOurs = no NOT-OURS
 portWriteSays PW.OtherFunction = no OTHER-FUNCTION
 
+abbrev pub windowReadSays : WindowReadAnswer → Reply
+windowReadSays (WR.Value v) = ok v
+windowReadSays WR.Offset = no WINDOW-OFFSET
+windowReadSays WR.Lanes = no LANES
+
+abbrev pub windowSays : WindowAnswer → Reply
+windowSays WA.Done = ok 0
+windowSays WA.Offset = no WINDOW-OFFSET
+windowSays WA.Lanes = no LANES
+windowSays WA.NotHost = no NOT-HOST
+
 abbrev pub claimSays : Claim → Claimed
 claimSays (C.Translation o) = claimed translation o
 claimSays (C.Aperture o) = claimed aperture o
@@ -61,3 +77,6 @@ updated r = record { reply = hostSays (r .answer); state = r .state }
 
 abbrev pub portWrote : PortWritten → Outcome
 portWrote r = record { reply = portWriteSays (r .answer); state = r .state }
+
+abbrev pub reached : Reached → Outcome
+reached r = record { reply = windowSays (r .answer); state = r .state }

@@ -4,13 +4,13 @@ use Prim.Native.Nat.{ℕ, _+_}
 use Rattle.bits.specs.Bits.{bit, field, byteOf}
 use Rattle.bits.specs.Choice.{if_then_else_, _and_, _or_, _is_, _≤?_, _<?_, anyBelow}
 use Rattle.bits.specs.Places.{bytes}
-use Rattle.answer.specs.Refusals.{OFFSET, LANES}
+use Rattle.answer.specs.Refusals.{OFFSET}
 use Rattle.map.specs.Registers.{MSAC, AFCTL}
 use Rattle.map.specs.Class.{Field, svid2, sid2, swsci15, Class, readOnly, host, guest, guestF, once, sizeCode, aperture, power, computed, resetStart, apertureBit, sameClass}
 use Rattle.map.specs.Map.{classOf}
 use Rattle.rules.specs.declared.State.{State}
 use Rattle.rules.specs.declared.Flags.{Flags}
-use Rattle.rules.specs.Access.{byte, up, busy, enabled, byteFor, badOffset, badLanes, Outcome, done, refused}
+use Rattle.rules.specs.Access.{holding, byte, up, busy, enabled, byteFor, badOffset, Outcome, outcomeAt}
 use Rattle.rules.specs.Plain.{storedOver}
 
 -- ---- the write-once fields
@@ -107,7 +107,7 @@ unfoldable pub bitAfter : State → ℕ → ℕ → ℕ → ℕ → ℕ → ℕ
 bitAfter s o l v i j = clear (enabled o l MSAC) (sizeAfter s o l v) i j (storedBit s o l v i j)
 
 unfoldable pub writtenOf : State → ℕ → ℕ → ℕ → State
-writtenOf s o l v = record { bytes = bytes (λ (i : ℕ). byteOf (bitAfter s o l v i)); latch = s .latch; flags = flagsAfter o l v (s .flags) }
+writtenOf s o l v = holding s (bytes (λ (i : ℕ). byteOf (bitAfter s o l v i))) (flagsAfter o l v (s .flags))
 
 -- while busy, guest writes are dropped
 unfoldable pub stepOf : State → ℕ → ℕ → ℕ → State
@@ -115,7 +115,4 @@ stepOf s o l v = if busy s then s else writtenOf s o l v
 
 -- dropped writes answer as accepted ones; refusals come first
 unfoldable pub writeOf : State → ℕ → ℕ → ℕ → Outcome
-writeOf s o l v =
-    if badOffset o then refused OFFSET s
-    else if badLanes l then refused LANES s
-    else done (stepOf s o l v)
+writeOf s o l v = outcomeAt (badOffset o) OFFSET l s (stepOf s o l v)

@@ -12,7 +12,7 @@ use Rattle.rules.specs.Plain.{updateGives}
 use Rattle.rules.specs.Access.{enabled, byteFor, badOffset, badLanes}
 use Rattle.rules.specs.Guest.{touches, starts}
 use Rattle.rules.specs.Ports.{DATA, badWidth, atLatch, notOurs, otherFunction, latchOf, dwordOf, portLanes, placed}
-use Rattle.rules.specs.Events.{Event, read, write, port-read, port-write, host-update, end-signal, platform-reset}
+use Rattle.rules.specs.Events.{Event, read, write, port-read, port-write, host-update, end-signal, platform-reset, window}
 
 -- ---- the events since the last platform reset, or the start
 
@@ -24,6 +24,7 @@ isReset (port-write p w v) = false
 isReset (host-update o m v) = false
 isReset end-signal = false
 isReset platform-reset = true
+isReset (window e) = false
 
 abbrev pub anyReset : List Event → Bool
 anyReset es = P.anyReset isReset es
@@ -41,6 +42,7 @@ latchAfter x (port-write p w v) = if atLatch p w then latchOf v else x
 latchAfter x (host-update o m v) = x
 latchAfter x end-signal = x
 latchAfter x platform-reset = 0
+latchAfter x (window e) = x
 
 -- ---- accepted guest writes to this function, by dword or through the port pair
 
@@ -60,6 +62,7 @@ acceptedWrite x (port-write p w v) =
 acceptedWrite x (host-update o m v) = none
 acceptedWrite x end-signal = none
 acceptedWrite x platform-reset = none
+acceptedWrite x (window e) = none
 
 -- ---- what the events so far tell: the latch, and whether a function reset is under way
 
@@ -91,6 +94,7 @@ busyAfter x (port-write p w v) = starting (guestWrite x (port-write p w v)) or x
 busyAfter x (host-update o m v) = x .busy
 busyAfter x end-signal = false
 busyAfter x platform-reset = false
+busyAfter x (window e) = x .busy
 
 abbrev pub seenNext : Event → Seen → Seen
 seenNext e x = record { latch = latchAfter (x .latch) e; busy = busyAfter x e }
@@ -129,6 +133,7 @@ gives i j (port-write p w v) = nothing
 gives i j (host-update o m v) = updateGives (λ (i j : ℕ). isHost (classOf i j)) o m v i j
 gives i j end-signal = nothing
 gives i j platform-reset = nothing
+gives i j (window e) = nothing
 
 -- the last of them that does
 abbrev pub lastUpdate : ℕ → ℕ → List Event → Given

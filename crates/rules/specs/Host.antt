@@ -8,7 +8,7 @@ use Rattle.answer.specs.Refusals.{OFFSET, NOT-HOST}
 use Rattle.map.specs.Class.{isHost}
 use Rattle.map.specs.Map.{classOf}
 use Rattle.rules.specs.declared.State.{State}
-use Rattle.rules.specs.Access.{Outcome, done, refused}
+use Rattle.rules.specs.Access.{holding, Outcome, done, refused}
 use Rattle.rules.specs.Plain.{held, outside, updatedBit}
 
 -- the mask has a bit outside the host mask
@@ -20,7 +20,7 @@ unfoldable pub hostBit : State → ℕ → ℕ → ℕ → ℕ → ℕ → ℕ
 hostBit s o m v i j = updatedBit (held (s .bytes)) o m v i j
 
 unfoldable pub hostStepOf : State → ℕ → ℕ → ℕ → State
-hostStepOf s o m v = record { bytes = bytes (λ (i : ℕ). byteOf (hostBit s o m v i)); latch = s .latch; flags = s .flags }
+hostStepOf s o m v = holding s (bytes (λ (i : ℕ). byteOf (hostBit s o m v i))) (s .flags)
 
 unfoldable pub hostOf : State → ℕ → ℕ → ℕ → Outcome
 hostOf s o m v =

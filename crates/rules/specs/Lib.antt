@@ -5,6 +5,7 @@ pub mod Guest
 pub mod Read
 pub mod Reset
 pub mod Host
+pub mod Window
 pub mod Fresh
 pub mod Ports
 pub mod Claims
@@ -12,4 +13,5 @@ pub mod Answers
 pub mod Events
 pub mod History
 pub mod Lanes
+pub mod WindowRuns
 pub mod Demand3

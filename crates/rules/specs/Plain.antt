@@ -6,8 +6,8 @@ use Prim.Native.Nat.{ℕ, _+_, _/_, _%_}
 use lib.ListN.{getD}
 use Rattle.bits.specs.Bits.{bit, numberOf}
 use Rattle.bits.specs.Choice.{if_then_else_, _and_, _or_, _is_, _<?_, anyBelow}
-use Rattle.answer.specs.Refusals.{Reply, ok, no, OFFSET, LANES}
-use Rattle.rules.specs.Access.{enabled, byteFor, badOffset, badLanes}
+use Rattle.answer.specs.Refusals.{Reply, OFFSET}
+use Rattle.rules.specs.Access.{enabled, byteFor, badOffset, replyAt}
 use Rattle.rules.specs.Past.{Given, nothing, given}
 
 -- bit j of byte i
@@ -31,16 +31,16 @@ under t i j = bit (getD t i 0) j is 1
 abbrev pub undriven : ℕ
 undriven = 1
 
--- each enabled byte in its place, FF in the others
+-- of a dword's 32 bits: each enabled byte in its place, FF in the others
+abbrev pub laneValue : (ℕ → ℕ) → ℕ → ℕ
+laneValue b l = numberOf 32 (λ (n : ℕ). if bit l (n / 8) is 1 then b n else undriven)
+
 abbrev pub shownValue : Bits → ℕ → ℕ → ℕ
-shownValue b o l = numberOf 32 (λ (n : ℕ). if bit l (n / 8) is 1 then b (o + n / 8) (n % 8) else undriven)
+shownValue b o l = laneValue (λ (n : ℕ). b (o + n / 8) (n % 8)) l
 
 -- refusals 5 and 6 in this order; else the value
 abbrev pub readReply : ℕ → ℕ → ℕ → Reply
-readReply o l value =
-    if badOffset o then no OFFSET
-    else if badLanes l then no LANES
-    else ok value
+readReply o l value = replyAt (badOffset o) OFFSET l value
 
 -- ---- a guest write
 

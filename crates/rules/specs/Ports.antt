@@ -48,7 +48,7 @@ unfoldable pub latchOf : ℕ → ℕ
 latchOf v = numberOf 32 (latchBit v)
 
 abbrev pub latched : State → ℕ → State
-latched s v = record { bytes = s .bytes; latch = latchOf v; flags = s .flags }
+latched s v = record { bytes = s .bytes; latch = latchOf v; flags = s .flags; window = s .window }
 
 -- ---- data
 

@@ -7,7 +7,7 @@ use Rattle.map.specs.Class.{resetStart, hasF, sameClass}
 use Rattle.map.specs.Map.{classOf, defaultAt}
 use Rattle.rules.specs.declared.State.{State}
 use Rattle.rules.specs.declared.Flags.{Flags}
-use Rattle.rules.specs.Access.{byte, busy}
+use Rattle.rules.specs.Access.{holding, byte, busy}
 use Rattle.rules.specs.Plain.{returnedBit}
 
 -- bit j of byte i, was x: F bits return to default, and the bit that starts the reset reads 0
@@ -22,7 +22,7 @@ abbrev pub idle : Flags → Flags
 idle c = record { svid2 = c .svid2; sid2 = c .sid2; swsci15 = c .swsci15; busy = 0 }
 
 unfoldable pub endedOf : State → State
-endedOf s = record { bytes = bytes (λ (i : ℕ). byteOf (endedBit s i)); latch = s .latch; flags = idle (s .flags) }
+endedOf s = holding s (bytes (λ (i : ℕ). byteOf (endedBit s i))) (idle (s .flags))
 
 -- the end signal; when not busy it changes nothing
 unfoldable pub endOf : State → State

@@ -9,12 +9,24 @@ pub struct Flags {
     pub busy: u8,
 }
 
-// The 256 configuration bytes, the port latch, and the flags. Every pattern of 264 bytes is a state.
+// The registers of the window inside GTTMMADR, in the order of their offsets; MTOUUD has two dwords.
+#[repr(C)]
+pub struct Mapped {
+    pub fault: u32,
+    pub assrreq: u32,
+    pub mtouud: u32,
+    pub mtouudh: u32,
+    pub mbdsm: u32,
+    pub cycles: u32,
+}
+
+// The 256 configuration bytes, the port latch, the flags, and the window's registers. Every pattern of 288 bytes is a state.
 #[repr(C)]
 pub struct State {
     pub bytes: [u8; 256],
     pub latch: u32,
     pub flags: Flags,
+    pub window: Mapped,
 }
 
 pub enum ReadAnswer {
@@ -61,6 +73,26 @@ pub enum PortWriteAnswer {
 
 pub struct PortWritten {
     pub answer: PortWriteAnswer,
+    pub state: State,
+}
+
+// Of a read in the window.
+pub enum WindowReadAnswer {
+    Value(u32),
+    Offset,
+    Lanes,
+}
+
+// Of a guest write in the window, and of the host's changes there.
+pub enum WindowAnswer {
+    Done,
+    Offset,
+    Lanes,
+    NotHost,
+}
+
+pub struct Reached {
+    pub answer: WindowAnswer,
     pub state: State,
 }
 

@@ -1,6 +1,7 @@
 -- The text of an answer ('The session player'): `OK`, `OK vvvvvvvv`, `NO n`, each with its LF.
-use mathlib.Core.List.{List, _∷_, _++_}
-use Prim.Native.Nat.{ℕ, _%_}
+use mathlib.Core.List.{List, [], _∷_, _++_}
+use Prim.Native.Nat.{ℕ, _/_, _%_}
+use Rattle.bits.specs.Choice.{if_then_else_, _<?_}
 use Rattle.lines.specs.Ascii.{ascii}
 use Rattle.lines.specs.Hex.{upOf, hexOf}
 use Rattle.texts.specs.declared.Said.{Said}
@@ -10,9 +11,13 @@ use Rattle.texts.specs.declared.Said.the-variants.{Done, Value, No}
 unfoldable pub okText : List ℕ
 okText = ascii "OK\n"
 
+-- a refusal's number in decimal: one digit, or two (of a larger one its last two)
+abbrev pub decimalOf : ℕ → List ℕ
+decimalOf n = if n <? 10 then upOf n ∷ [] else upOf (n / 10 % 10) ∷ upOf (n % 10) ∷ []
+
 -- NO n
 unfoldable pub noText : ℕ → List ℕ
-noText n = ascii "NO " ++ (upOf (n % 10) ∷ ascii "\n")
+noText n = ascii "NO " ++ (decimalOf n ++ ascii "\n")
 
 -- OK vvvvvvvv
 unfoldable pub valueText : ℕ → List ℕ

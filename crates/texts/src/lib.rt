@@ -34,18 +34,28 @@ fn put_ok(out: &mut [u8], o: usize)
     out[o + 2] = b'\n';
 }
 
-// A refusal's number has one digit in a player's answers, and its last is put.
-fn put_no(out: &mut [u8], o: usize, n: u32)
-    requires { ⌜ o + 5 ≤ length (now out) ⌝ }
-    ensures { λ _. ⌜ take (o + 5) (now (out .exit)) ≡ take o (now (out .entry)) ++ noText n ⌝ }
+// A refusal's number in decimal, one digit or two (of a larger one its last two); the result is the place behind it.
+fn put_no(out: &mut [u8], o: usize, n: u32) -> usize
+    requires { ⌜ o + 6 ≤ length (now out) ⌝ }
+    ensures { λ r. ⌜ take r (now (out .exit)) ≡ take o (now (out .entry)) ++ noText n ⌝ }
     ensures { λ _. ⌜ length (now (out .exit)) ≡ length (now (out .entry)) ⌝ }
+    ensures { λ r. ⌜ r ≤ o + 6 ⌝ }
 {
-    let d = up(n % 10);
     out[o] = b'N';
     out[o + 1] = b'O';
     out[o + 2] = b' ';
-    out[o + 3] = d;
-    out[o + 4] = b'\n';
+    if n < 10 {
+        let d = up(n);
+        out[o + 3] = d;
+        out[o + 4] = b'\n';
+        return o + 5;
+    }
+    let t = up(n / 10 % 10);
+    let d = up(n % 10);
+    out[o + 3] = t;
+    out[o + 4] = d;
+    out[o + 5] = b'\n';
+    o + 6
 }
 
 fn put_value(out: &mut [u8], o: usize, v: u32)
@@ -87,10 +97,7 @@ pub fn put(out: &mut [u8], o: usize, a: Said) -> usize
             put_ok(out, o);
             o + 3
         }
-        Said::No(n) => {
-            put_no(out, o, n);
-            o + 5
-        }
+        Said::No(n) => put_no(out, o, n),
         Said::Value(v) => {
             put_value(out, o, v);
             o + 12

@@ -44,3 +44,4 @@ pub mod sheet_session;
 pub mod trace;
 pub mod twin;
 pub mod walk;
+pub mod window;

@@ -12,7 +12,7 @@ use crate::walk::Walk;
 pub enum Mode {
     /// The paper's session player.
     Player,
-    /// The player's lines, and ports, claims, probe and walk.
+    /// The player's lines, and ports, claims, probe, walk and the window.
     Console,
     /// The player's lines but for the end signal, and the function reset of a
     /// sheet's device.
@@ -31,7 +31,7 @@ impl Mode {
 }
 
 /// The length in bytes of the longest line that is of a known form.
-pub const LONGEST_LINE: usize = "S llllllll hhhhhhhh".len();
+pub const LONGEST_LINE: usize = "Y oooooo mmmmmmmm vvvvvvvv".len();
 
 /// A line of a known form.
 #[derive(Clone, Copy, Debug, PartialEq, Eq)]
@@ -60,6 +60,18 @@ pub enum Command {
     Probe { low: u32, high: u32 },
     /// `K ii`: a capability walk.
     Walk { wanted: u8 },
+    /// `V oooooo l vvvvvvvv`: a guest write in the window.
+    WindowWrite { offset: u32, lanes: u32, value: u32 },
+    /// `U oooooo l`: a guest read in the window.
+    WindowRead { offset: u32, lanes: u32 },
+    /// `C mmmmmmmm`: the completion of requests.
+    Complete { mask: u32 },
+    /// `F vvvvvvvv`: a fault word.
+    Fault { word: u32 },
+    /// `T nnnnnnnn`: an addition to the cycle sum.
+    AddCycles { count: u32 },
+    /// `Y oooooo mmmmmmmm vvvvvvvv`: a device update of a mirror.
+    MirrorUpdate { offset: u32, mask: u32, value: u32 },
 }
 
 /// The numbers of hex digits in the fields after a command's letter.
@@ -77,6 +89,10 @@ fn digits(letter: &[u8], mode: Mode) -> Option<&'static [usize]> {
         (b"N", Mode::Console) => Some(&[4]),
         (b"S", Mode::Console) => Some(&[8, 8]),
         (b"K", Mode::Console) => Some(&[2]),
+        (b"V", Mode::Console) => Some(&[6, 1, 8]),
+        (b"U", Mode::Console) => Some(&[6, 1]),
+        (b"C" | b"F" | b"T", Mode::Console) => Some(&[8]),
+        (b"Y", Mode::Console) => Some(&[6, 8, 8]),
         _ => None,
     }
 }
@@ -163,6 +179,25 @@ fn command(letter: u8, numbers: &[u64]) -> Option<Command> {
         },
         (b'K', &[wanted]) => Command::Walk {
             wanted: wanted as u8,
+        },
+        (b'V', &[offset, lanes, value]) => Command::WindowWrite {
+            offset: offset as u32,
+            lanes: lanes as u32,
+            value: value as u32,
+        },
+        (b'U', &[offset, lanes]) => Command::WindowRead {
+            offset: offset as u32,
+            lanes: lanes as u32,
+        },
+        (b'C', &[mask]) => Command::Complete { mask: mask as u32 },
+        (b'F', &[word]) => Command::Fault { word: word as u32 },
+        (b'T', &[count]) => Command::AddCycles {
+            count: count as u32,
+        },
+        (b'Y', &[offset, mask, value]) => Command::MirrorUpdate {
+            offset: offset as u32,
+            mask: mask as u32,
+            value: value as u32,
         },
         _ => return None,
     };
@@ -295,6 +330,23 @@ fn perform(twin: &mut Twin, command: Command) -> Answer {
         Command::ClaimPort { port } => Answer::Claim(twin.claim_port(port)),
         Command::Probe { low, high } => probe::probe(low, high).into(),
         Command::Walk { wanted } => twin.walk(wanted).into(),
+        Command::WindowWrite {
+            offset,
+            lanes,
+            value,
+        } => twin.window_write(offset, lanes, value).into(),
+        Command::WindowRead { offset, lanes } => twin.window_read(offset, lanes).into(),
+        Command::Complete { mask } => twin.complete(mask).into(),
+        Command::Fault { word } => twin.fault(word).into(),
+        Command::AddCycles { count } => {
+            twin.add_cycles(count);
+            Answer::Done
+        }
+        Command::MirrorUpdate {
+            offset,
+            mask,
+            value,
+        } => twin.mirror_update(offset, mask, value).into(),
         // The twin's function reset is a write to AFCTL and an end signal; its
         // modes know no such line.
         Command::FunctionReset => Answer::Refused(Refusal::Line),

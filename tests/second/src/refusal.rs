@@ -1,4 +1,4 @@
-//! The paper's refusal numbers, but for 10 and 11, which a walk carries
+//! The papers' refusal numbers, but for 10 and 11, which a walk carries
 //! together with its count (see [`crate::walk`]).
 
 /// Why an access was refused.
@@ -16,7 +16,8 @@ pub enum Refusal {
     Offset,
     /// Lanes above 15.
     Lanes,
-    /// An update mask with a bit outside the host mask.
+    /// An update mask with a bit outside the host mask; a fault word or a
+    /// completion with a bit outside its own.
     NotHost,
     /// A probe readback that names no range.
     NoRange,
@@ -28,10 +29,12 @@ pub enum Refusal {
     SheetContents,
     /// A sheet's body with masks that don't go together.
     SheetBody,
+    /// A window offset above 3FFFFF or unaligned.
+    WindowOffset,
 }
 
 impl Refusal {
-    /// The number in the paper's table.
+    /// The number in the papers.
     pub fn number(self) -> u32 {
         match self {
             Refusal::Length => 1,
@@ -46,6 +49,7 @@ impl Refusal {
             Refusal::SheetLength => 12,
             Refusal::SheetContents => 13,
             Refusal::SheetBody => 14,
+            Refusal::WindowOffset => 16,
         }
     }
 }

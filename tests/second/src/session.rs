@@ -4,7 +4,10 @@
 //! paper, with platform resets, end signals and spoiled lines strewn in between.
 //! A scene in which a function reset starts waits until a busy phase of some
 //! lines is over. The maker keeps a twin of its own, but only to know when it is
-//! busy and has open fields, and to aim its claims at the bases as they stand.
+//! busy and has open fields, and to aim its claims at the bases and its cycle
+//! counts at the sum as they stand.
+
+mod window;
 
 use std::collections::VecDeque;
 use std::io::{self, Write};
@@ -15,6 +18,8 @@ use crate::map;
 use crate::rng::Rng;
 use crate::twin::Twin;
 
+pub(crate) use window::{stray_window_line, NEAR_WINDOW};
+
 /// One line in so many is a platform reset: rare enough that locks matter.
 const LINES_TO_A_PLATFORM_RESET: u64 = 200;
 /// One line in so many is an end signal that no function reset asks for.
@@ -22,7 +27,7 @@ const LINES_TO_AN_END_SIGNAL: u64 = 100;
 /// One line in so many is spoiled.
 const LINES_TO_A_SPOILED: u64 = 12;
 /// One look at a dword in so many has a read of fewer lanes behind it.
-const LOOKS_TO_FEWER_LANES: u64 = 3;
+const LOOKS_TO_FEWER_LANES: u64 = 2;
 /// Sweeps of host bits start so many bytes further on for each seed, so that
 /// together a few seeds in a row sweep all bytes.
 const SWEPT_BY_A_SEED: u64 = 25;
@@ -64,6 +69,19 @@ enum Step {
     NearMemoryBase,
     /// A claim near the I/O base as it will stand by then.
     NearIoBase,
+    /// A claim of GTTMMADR's base, as it will stand by then, and an offset.
+    InTranslation(u32),
+    /// An addition to the cycle sum as it will stand by then.
+    Cycles,
+}
+
+/// What a line was aimed at, and what is to be looked at later.
+#[derive(Clone, Copy)]
+enum Aim {
+    /// A dword of the function.
+    Function(u32),
+    /// A dword of the window.
+    Window(u32),
 }
 
 /// A session in the making.
@@ -130,6 +148,9 @@ impl Session {
         if self.rng.one_in(20) {
             return self.rng.pick(NEAR_END_SIGNAL).to_vec();
         }
+        if self.rng.one_in(20) {
+            return self.rng.pick(NEAR_WINDOW).to_vec();
+        }
         let line = self.stray_line();
         if self.mode == Mode::Player && self.rng.one_in(6) {
             return line;
@@ -144,6 +165,10 @@ impl Session {
                 Some(Step::Line(line)) => return line,
                 Some(Step::NearMemoryBase) => return claim_memory(self.address()),
                 Some(Step::NearIoBase) => return claim_port(self.port()),
+                Some(Step::InTranslation(offset)) => {
+                    return claim_memory(self.twin.translation_base() + u64::from(offset));
+                }
+                Some(Step::Cycles) => return self.cycles(),
                 None => self.scene(),
             }
         }
@@ -155,7 +180,7 @@ impl Session {
     /// A line of any of the console's forms, outside any scene.
     fn stray_line(&mut self) -> Vec<u8> {
         let rng = &mut self.rng;
-        match rng.below(15) {
+        match rng.below(18) {
             0..=2 => write(aligned(rng), rng.below(16) as u32, rng.telling_dword()),
             3..=4 => read(aligned(rng), rng.below(16) as u32),
             5..=6 => host(rng.pick(HOST_BYTES), rng.byte(), rng.byte()),
@@ -166,7 +191,8 @@ impl Session {
             11 => claim_memory(rng.qword()),
             12 => claim_port(rng.dword() as u16),
             13 => probe(rng.telling_dword(), rng.telling_dword()),
-            _ => walk(rng.byte()),
+            14 => walk(rng.byte()),
+            _ => stray_window_line(rng),
         }
     }
 
@@ -241,8 +267,12 @@ impl Session {
 /// Scenes.
 impl Session {
     fn scene(&mut self) {
-        if self.mode == Mode::Console && self.rng.one_in(2) {
-            return self.console_scene();
+        if self.mode == Mode::Console {
+            match self.rng.below(5) {
+                0 | 1 => return self.console_scene(),
+                2 => return self.window_scene(),
+                _ => {}
+            }
         }
         match self.rng.below(64) {
             0..=6 => self.write_once(),
@@ -261,9 +291,9 @@ impl Session {
 
     fn console_scene(&mut self) {
         match self.rng.below(40) {
-            0..=9 => self.latch_and_data(),
-            10..=14 => self.ports_around(),
-            15..=27 => self.claims(),
+            0..=11 => self.latch_and_data(),
+            12..=17 => self.ports_around(),
+            18..=27 => self.claims(),
             28..=33 => self.probes(),
             34..=36 => self.walks(),
             _ => self.size_probe_of_a_base(),
@@ -472,13 +502,13 @@ impl Session {
     /// kind, the end signal, and a look at what they were aimed at.
     fn busy_phase(&mut self) {
         let rest = std::mem::take(&mut self.steps);
-        let dwords = self.busy_accesses();
+        let aims = self.busy_accesses();
         self.push(end_signal());
         if self.rng.one_in(10) {
             self.push(end_signal());
         }
-        for dword in dwords.into_iter().take(3) {
-            self.look_at(dword);
+        for aim in aims.into_iter().take(3) {
+            self.look_at(aim);
         }
         if self.mode == Mode::Console && self.rng.one_in(5) {
             self.push(port_read(0x0CF8, 4));
@@ -488,26 +518,32 @@ impl Session {
 
     /// Some lines while busy, none at times, and the dwords that they would
     /// change if the function weren't busy, or do change.
-    fn busy_accesses(&mut self) -> Vec<u32> {
+    fn busy_accesses(&mut self) -> Vec<Aim> {
         let most = self.rng.pick(&[4, 8, 12]);
         let length = self.rng.index(most + 1);
-        let mut dwords = Vec::new();
+        let mut aims = Vec::new();
         while self.steps.len() < length {
-            dwords.extend(self.busy_access());
+            aims.extend(self.busy_access());
         }
         self.steps.truncate(length);
-        dwords
+        aims
     }
 
     /// An access while busy, and its dword if it is a write or a host update.
-    fn busy_access(&mut self) -> Option<u32> {
-        if self.mode == Mode::Console && self.rng.one_in(2) {
-            self.busy_console_access();
-            return None;
+    fn busy_access(&mut self) -> Option<Aim> {
+        if self.mode == Mode::Console {
+            match self.rng.below(8) {
+                0..=2 => {
+                    self.busy_console_access();
+                    return None;
+                }
+                3 | 4 => return Some(Aim::Window(self.push_any_access())),
+                _ => {}
+            }
         }
         match self.rng.below(8) {
-            0..=3 => Some(self.busy_write()),
-            4 | 5 => Some(self.push_host()),
+            0..=3 => Some(Aim::Function(self.busy_write())),
+            4 | 5 => Some(Aim::Function(self.push_host())),
             _ => {
                 self.busy_look();
                 None
@@ -562,7 +598,11 @@ impl Session {
 
     /// A read of the dword; a write-once field may be written to before, which
     /// shows whether it is still open.
-    fn look_at(&mut self, dword: u32) {
+    fn look_at(&mut self, aim: Aim) {
+        let dword = match aim {
+            Aim::Function(dword) => dword,
+            Aim::Window(offset) => return self.push_window_look(offset),
+        };
         if WRITE_ONCE_DWORDS.contains(&dword) && self.rng.one_in(2) {
             let (lanes, value) = (self.lanes(), self.rng.telling_dword());
             self.push_write(dword, lanes, value);

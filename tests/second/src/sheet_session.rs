@@ -9,7 +9,9 @@ use std::collections::VecDeque;
 
 use crate::malform::spoil;
 use crate::rng::Rng;
-use crate::session::{aligned, fewer_lanes, host, last_line, read, walk, write};
+use crate::session::{
+    aligned, fewer_lanes, host, last_line, read, stray_window_line, walk, write, NEAR_WINDOW,
+};
 use crate::sheet::{Register, Sheet};
 
 /// One line in so many is a platform reset: rare enough that bits matter.
@@ -75,7 +77,7 @@ impl SheetSession<'_> {
     /// A spoiled line, or one that only the player or the console knows.
     fn spoiled_line(&mut self) -> Vec<u8> {
         let (offset, lanes) = (self.dword(), self.rng.below(16) as u32);
-        let line = match self.rng.below(9) {
+        let line = match self.rng.below(11) {
             0..=1 => write(offset, lanes, self.rng.telling_dword()),
             2 => read(offset, lanes),
             3 => host(self.byte(), self.rng.byte(), self.rng.byte()),
@@ -83,7 +85,9 @@ impl SheetSession<'_> {
             5 => b"Z".to_vec(),
             6 => return self.rng.pick(NEAR_FUNCTION_RESET).to_vec(),
             7 => return b"E".to_vec(),
-            _ => return walk(self.rng.byte()),
+            8 => return walk(self.rng.byte()),
+            9 => return self.rng.pick(NEAR_WINDOW).to_vec(),
+            _ => return stray_window_line(self.rng),
         };
         spoil(self.rng, &line)
     }

@@ -1,10 +1,11 @@
-//! The twin: a class and a value for each bit, the field flags, the latch, and
-//! whether a function reset is under way.
+//! The twin: a class and a value for each bit, the field flags, the latch,
+//! whether a function reset is under way, and the window.
 
 use crate::access::Access;
 use crate::map::{self, Class, Field, BITS, BYTES};
 use crate::refusal::Refusal;
 use crate::walk::{self, Walk};
+use crate::window::{self, Window};
 
 const PCICMD2: usize = 0x04;
 const GTTMMADR: usize = 0x10;
@@ -146,6 +147,9 @@ pub struct Record {
     pub closed: [u8; 3],
     /// 0 if no function reset is under way, any other number if one is.
     pub busy: u8,
+    /// The window's registers by ascending offset: FAULT_REG, ASSRREQ, MTOUUD,
+    /// its high dword, MBDSM, and the DRAM cycle sum.
+    pub window: [u32; window::REGISTERS],
 }
 
 /// The whole state of the function.
@@ -157,6 +161,7 @@ pub struct Twin {
     /// 0 not busy, any other number busy. A guest's start leaves 1; another
     /// number is of foreign making.
     busy: u8,
+    window: Window,
 }
 
 impl Default for Twin {
@@ -179,6 +184,7 @@ impl Twin {
             },
             latch: record.latch,
             busy: record.busy,
+            window: Window::of_dwords(record.window),
         }
     }
 
@@ -199,19 +205,21 @@ impl Twin {
             latch: self.latch,
             closed: [svid2, sid2, swsci_bit_15],
             busy: self.busy,
+            window: self.window.dwords(),
         }
     }
 }
 
 /// Direct access.
 impl Twin {
-    /// The fresh state: defaults, fields open, latch 0, not busy.
+    /// The fresh state: defaults, fields open, latch 0, not busy, window 0.
     pub fn fresh() -> Twin {
         Twin {
             values: *map::paper().defaults(),
             closed: Closed::default(),
             latch: 0,
             busy: 0,
+            window: Window::default(),
         }
     }
 
@@ -475,6 +483,48 @@ fn latched(value: u32) -> u32 {
 /// The lanes of so many bytes from `first_lane` on.
 fn lanes_of(width: u32, first_lane: u32) -> u32 {
     (first_lane..first_lane + width).fold(0, |lanes, lane| lanes | 1 << lane)
+}
+
+/// The window.
+impl Twin {
+    /// A guest read of a window dword's enabled bytes, the others FF; ones
+    /// while busy.
+    pub fn window_read(&self, offset: u32, lanes: u32) -> Result<u32, Refusal> {
+        let access = Access::in_window(offset, lanes)?;
+        if self.is_busy() {
+            return Ok(u32::MAX);
+        }
+        Ok(access.read_value(|at| self.window.byte(at)))
+    }
+
+    /// A guest write of a window dword's enabled bytes; it is dropped while busy.
+    pub fn window_write(&mut self, offset: u32, lanes: u32, value: u32) -> Result<(), Refusal> {
+        let access = Access::in_window(offset, lanes)?;
+        if !self.is_busy() {
+            self.window.guest_write(access, value);
+        }
+        Ok(())
+    }
+
+    /// The host completes the masked requests, busy or not.
+    pub fn complete(&mut self, mask: u32) -> Result<(), Refusal> {
+        self.window.complete(mask)
+    }
+
+    /// The host gives a fault word, busy or not.
+    pub fn fault(&mut self, word: u32) -> Result<(), Refusal> {
+        self.window.fault(word)
+    }
+
+    /// The host adds to the DRAM cycle sum, busy or not.
+    pub fn add_cycles(&mut self, count: u32) {
+        self.window.add_cycles(count);
+    }
+
+    /// A device update of the masked bits of a mirror, busy or not.
+    pub fn mirror_update(&mut self, offset: u32, mask: u32, value: u32) -> Result<(), Refusal> {
+        self.window.mirror_update(offset, mask, value)
+    }
 }
 
 /// Claims and the walk.

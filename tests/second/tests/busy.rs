@@ -1,7 +1,11 @@
 //! A function reset takes time: its start, the busy state, and its end.
 
-use second::line::Mode::{self, Console, Player};
-use second::player::answers;
+mod common {
+    pub mod rows;
+}
+
+use common::rows::check_twin;
+use second::line::Mode::{Console, Player};
 use second::refusal::Refusal;
 use second::twin::{Claim, Record, Twin};
 use second::walk::Walk;
@@ -16,6 +20,7 @@ fn foreign(byte: u8, busy: u8) -> Record {
         latch: 0x8000_1000,
         closed: [0, 9, 1],
         busy,
+        window: [u32::from_le_bytes([byte; 4]); 6],
     }
 }
 
@@ -494,17 +499,6 @@ fn records_keep_the_busy_byte() {
 
 // ---- sessions
 
-/// Plays a session from a fresh state and holds each answer to the wanted one.
-fn check(mode: Mode, rows: &[(&str, &str)]) {
-    let session: String = rows.iter().map(|(line, _)| format!("{line}\n")).collect();
-    let said = String::from_utf8(answers(session.as_bytes(), mode)).unwrap();
-    let said: Vec<&str> = said.lines().collect();
-    assert_eq!(said.len(), rows.len());
-    for (index, (line, wanted)) in rows.iter().enumerate() {
-        assert_eq!(said[index], *wanted, "{mode:?}, line {index}: {line}");
-    }
-}
-
 #[test]
 fn a_session_of_the_player() {
     let rows = [
@@ -548,8 +542,8 @@ fn a_session_of_the_player() {
         ("E", "OK"),
         ("R 98 F", "OK 00001234"),
     ];
-    check(Player, &rows);
-    check(Console, &rows);
+    check_twin(Player, &rows);
+    check_twin(Console, &rows);
 }
 
 #[test]
@@ -593,5 +587,5 @@ fn a_session_of_the_console() {
         ("E", "OK"),
         ("A 0000000000000000", "OK TRANSLATION 00000000"),
     ];
-    check(Console, &rows);
+    check_twin(Console, &rows);
 }

@@ -1,7 +1,12 @@
 //! The made sessions: the same each time, and with everything in them.
 
+mod common {
+    pub mod lanes;
+}
+
 use std::collections::BTreeMap;
 
+use common::lanes::UNDRIVEN;
 use second::difference::{difference, lines};
 use second::line::Mode::{self, Console, Player};
 use second::line::{answer, parse, Answer, Command};
@@ -274,6 +279,7 @@ fn tally(mode: Mode) -> BTreeMap<&'static str, usize> {
 /// lines must find the function not busy.
 fn check_tally(mode: Mode, fewest: &[(&str, usize)]) {
     let tally = tally(mode);
+    println!("{mode:?} {tally:#?}");
     for (name, fewest) in fewest {
         let count = tally.get(name).copied().unwrap_or(0);
         assert!(count >= *fewest, "{mode:?}, {name}: {tally:#?}");
@@ -391,13 +397,6 @@ fn every_session_reads_by_all_lanes() {
 /// A way to read wrongly: its name, and what a command then reads for a value.
 type Fault = (&'static str, fn(&Event, u32) -> u32);
 
-/// The bits of the lanes that aren't enabled.
-fn undriven(lanes: u32) -> u32 {
-    (0..4)
-        .filter(|lane| lanes >> lane & 1 == 0)
-        .fold(0, |bits, lane| bits | 0xFF << (8 * lane))
-}
-
 /// The bits above a port access's width.
 fn above(width: u32) -> u32 {
     u32::MAX.checked_shl(8 * width).unwrap_or(0)
@@ -406,7 +405,7 @@ fn above(width: u32) -> u32 {
 const DIRECT_FAULTS: [Fault; 2] = [
     ("undriven lanes as zero", |event, value| {
         match event.command {
-            Some(Command::Read { lanes, .. }) => value & !undriven(lanes),
+            Some(Command::Read { lanes, .. }) => value & !UNDRIVEN[lanes as usize],
             _ => value,
         }
     }),

@@ -1,5 +1,10 @@
 //! The paper's rules beyond its examples.
 
+mod common {
+    pub mod lanes;
+}
+
+use common::lanes::UNDRIVEN;
 use second::map::{self, Class, BITS};
 use second::probe::{probe, Kind, Range};
 use second::refusal::Refusal;
@@ -148,13 +153,10 @@ fn host_update_takes_masked_bits_alone() {
 #[test]
 fn lanes() {
     let mut twin = Twin::fresh();
-    for lanes in 0..16 {
-        let kept = (0..4)
-            .filter(|lane| lanes >> lane & 1 == 1)
-            .fold(0, |m, lane| m | 0xFF << (8 * lane));
-        assert_eq!(twin.guest_read(0x00, lanes), Ok(0x01528086 | !kept));
+    for (lanes, undriven) in (0..).zip(UNDRIVEN) {
+        assert_eq!(twin.guest_read(0x00, lanes), Ok(0x01528086 | undriven));
         let fresh = after(&[(0xFC, lanes, u32::MAX)]);
-        assert_eq!(dword(&fresh, 0xFC), kept);
+        assert_eq!(dword(&fresh, 0xFC), !undriven);
     }
     let before = twin.clone();
     assert_eq!(twin.guest_write(0x2C, 0, u32::MAX), Ok(()));

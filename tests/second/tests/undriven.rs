@@ -1,32 +1,18 @@
 //! Undriven lanes read as ones in a direct read, of the twin and of a sheet's
 //! device; a port read has zeros above its width as ever.
 
-use second::line::Mode::{self, Console, Player};
+mod common {
+    pub mod lanes;
+    pub mod rows;
+}
+
+use common::lanes::UNDRIVEN;
+use common::rows::{check, check_twin};
+use second::line::Mode::{Console, Player};
 use second::plain_device::{self, PlainDevice};
-use second::player;
 use second::refusal::Refusal;
 use second::sheet::{self, Sheet};
 use second::twin::{Record, Twin};
-
-/// The bits of the lanes that aren't enabled, by lanes.
-const UNDRIVEN: [u32; 16] = [
-    0xFFFF_FFFF,
-    0xFFFF_FF00,
-    0xFFFF_00FF,
-    0xFFFF_0000,
-    0xFF00_FFFF,
-    0xFF00_FF00,
-    0xFF00_00FF,
-    0xFF00_0000,
-    0x00FF_FFFF,
-    0x00FF_FF00,
-    0x00FF_00FF,
-    0x00FF_0000,
-    0x0000_FFFF,
-    0x0000_FF00,
-    0x0000_00FF,
-    0x0000_0000,
-];
 
 /// Every data access of the port pair: port, width, and its lanes.
 const DATA: [(u16, u32, u32); 8] = [
@@ -57,6 +43,7 @@ fn foreign(byte: u8) -> Record {
         latch: 0x8000_1000,
         closed: [0, 9, 1],
         busy: 0,
+        window: [0; 6],
     }
 }
 
@@ -84,22 +71,6 @@ fn busy(record: &Record) -> Record {
 
 fn the_sheet() -> Sheet {
     sheet::read(&SHEET).unwrap()
-}
-
-/// Holds the answers to a session to the wanted ones.
-fn check(rows: &[(&str, &str)], answers: impl FnOnce(&[u8]) -> Vec<u8>) {
-    let session: String = rows.iter().map(|(line, _)| format!("{line}\n")).collect();
-    let said = String::from_utf8(answers(session.as_bytes())).unwrap();
-    let said: Vec<&str> = said.lines().collect();
-    assert_eq!(said.len(), rows.len());
-    for (index, (line, wanted)) in rows.iter().enumerate() {
-        assert_eq!(said[index], *wanted, "line {index}: {line}");
-    }
-}
-
-/// Holds the answers of a fresh twin to the wanted ones.
-fn check_twin(mode: Mode, rows: &[(&str, &str)]) {
-    check(rows, |session| player::answers(session, mode));
 }
 
 // ---- direct reads

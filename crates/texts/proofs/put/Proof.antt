@@ -20,17 +20,14 @@ enum-known-a c = search needs
 put-no-requires : tie.Need-put-no-requires
 put-no-requires c κs = search needs
 
-add-result-2 : tie.Need-add-result-2
-add-result-2 c = search needs
-
 enum-known-a-2 : tie.Need-enum-known-a-2
 enum-known-a-2 c = search needs
 
 put-value-requires : tie.Need-put-value-requires
 put-value-requires c κs = search needs
 
-add-result-3 : tie.Need-add-result-3
-add-result-3 c = search needs
+add-result-2 : tie.Need-add-result-2
+add-result-2 c = search needs
 
 same-length : tie.Need-same-length
 same-length c = search needs
@@ -44,7 +41,7 @@ same-length-2 c = search needs
 
 returns-2 : tie.Need-returns-2
 unfolding textOf
-returns-2 c = rw (c .before .before .before .before .before .a .given .1) (c .before .before .put-no .ensures .0, (c .before .before .put-no .ensures .1, omega arith))
+returns-2 c = rw (c .before .before .before .before .before .a .given .1) (c .before .before .put-no .ensures .0, (c .before .before .put-no .ensures .1 .0, omega arith))
 
 same-length-3 : tie.Need-same-length-3
 same-length-3 c = search needs
@@ -62,10 +59,9 @@ put-spec =
     add-result
     enum-known-a
     put-no-requires
-    add-result-2
     enum-known-a-2
     put-value-requires
-    add-result-3
+    add-result-2
     same-length
     returns
     same-length-2

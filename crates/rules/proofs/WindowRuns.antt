@@ -1,0 +1,387 @@
+-- The window's clauses are proved; the statements are in specs/WindowRuns.antt.
+use mathlib.Core.Path.{_≡_, refl, sym, ap, subst, _∙_}
+use mathlib.Core.List.{List, [], _∷_}
+use mathlib.Core.Bool.{Bool, true, false, not}
+use Prim.Native.Nat.{ℕ, _+_, _/_, _%_, _^_, _≤_, _<_}
+use native.Mathlib.Omega.{arith}
+use native.Mathlib.Nat.{add-zero, zero-add, mod-eq-of-lt}
+use lib.Dec.{T, eqb, ltb, eqb→eq}
+use borrow.Author.Tests.{eq-eqb, le-ltb}
+use Rattle.bits.specs.Bits.{bit, numberOf}
+use Rattle.bits.specs.Choice.{pick, both, either, allBelow}
+use Rattle.bits.proofs.Laws.{number-ext, bit-number, bit<2, bit-zero, number<}
+use Rattle.bits.proofs.Below.{pick-has, either-left, either-right, below, is-true, both-left, both-right}
+use Rattle.answer.specs.Refusals.{ok, LANES, NOT-HOST, WINDOW-OFFSET}
+use Rattle.map.specs.Registers.{PCICMD2, MSAC}
+use Rattle.rules.specs.declared.State.{State}
+use Rattle.rules.specs.declared.Mapped.{Mapped}
+use Rattle.rules.specs.Access.{byte, busy, badLanes, Outcome, done, refused}
+use Rattle.rules.specs.Guest.{sizeOf, exponentOf, writtenOf}
+use Rattle.rules.specs.Host.{notHost, hostStepOf, hostOf}
+use Rattle.rules.specs.Reset.{endedOf, endOf}
+use Rattle.rules.specs.Fresh.{freshWindow, freshOf}
+use Rattle.rules.specs.Past as P
+use Rattle.rules.specs.Past.{nothing, given, orHeld, ran, lastGiven}
+use Rattle.rules.specs.Plain.{undriven, laneValue}
+use Rattle.rules.specs.Claims.{Claimed, unclaimed, claimed, translation, aperture, io, translationBase, apertureBase, translationExponent, holds, off, apertureClaim, memoryClaimOf}
+use Rattle.rules.specs.Window.{FAULT-REG, ASSRREQ, MTOUUD, MTOUUD-HIGH, MBDSM, badWindow, withWindow, windowBit, windowReadBit, windowReadOf, withFault, withAssrreq, withMtouud, withMtouudh, withMbdsm, withCycles, clears, asks, acknowledged, requested, faulted, windowWritten, windowStepOf, windowWriteOf, beyond, masked, requestMask, completeOf, faultMask, faultOf, cyclesOf, mirrorMask, mirrored, mirrorUpdateOf}
+use Rattle.rules.specs.Events.{WindowEvent, window-read, window-write, complete, fault, add-cycles, mirror-update, windowHappens, Event, read, write, port-read, port-write, host-update, end-signal, platform-reset, window, happens, next, runFrom, run}
+use Rattle.rules.specs.History.{isReset, anyReset, since, GuestWrite, none, at, guestWrite}
+use Rattle.rules.specs.WindowRuns.{isMirror, inWindow, mirrorGives, mirrorBit, Mirrors, Mirrors-read, counted, total, Sum, clearing, Locked, Requests, Left, Apart, Window-busy, Claimed-reached}
+use Rattle.rules.proofs.Past.{history}
+use Rattle.rules.proofs.EachBit.{host-state}
+use Rattle.rules.proofs.Runs.{reset-forgets, run-since, since-none, each-keeps, performed, seenOf, write-effect, port-effect, window-effect}
+
+-- ---- 5. what leaves the window, and what the window leaves
+
+performed-leaves : (g : GuestWrite) (s : State) → performed g s .window ≡ s .window
+unfolding writtenOf
+performed-leaves none s = refl
+performed-leaves (at o l v) s = refl
+
+picked : (b : Bool) (s t : State) → t .window ≡ s .window → pick b t s .window ≡ s .window
+picked true s t e = e
+picked false s t e = refl
+
+pub window-left : Left
+unfolding happens hostOf endOf endedOf hostStepOf
+window-left (read o l) s n w = refl
+window-left (write o l v) s n w = ap (λ (x : State). x .window) (write-effect s o l v) ∙ performed-leaves (guestWrite (seenOf s) (write o l v)) s
+window-left (port-read p w) s n x = refl
+window-left (port-write p w v) s n x = ap (λ (x : State). x .window) (port-effect s p w v) ∙ performed-leaves (guestWrite (seenOf s) (port-write p w v)) s
+window-left (host-update o m v) s n w = ap (λ (x : State). x .window) (host-state s o m v) ∙ picked (not (either (ltb 255 o) (notHost o m))) s (hostStepOf s o m v) refl
+window-left end-signal s n w = picked (busy s) s (endedOf s) refl
+window-left platform-reset s n w = absurd (subst T n tt)
+window-left (window e) s n w = absurd (subst T (sym w) tt)
+
+pub window-apart : Apart
+window-apart e s = let q = window-effect s e .1 in (ap (λ (x : State). x .bytes) q, ap (λ (x : State). x .latch) q, ap (λ (x : State). x .flags) q)
+
+-- an event is one of the window's, or none of them
+by-window : (P : Event → Type 0) → ((e : Event) → inWindow true (λ (w : WindowEvent). false) e ≡ true → P e) → ((w : WindowEvent) → P (window w)) → (e : Event) → P e
+by-window P out inside (read o l) = out (read o l) refl
+by-window P out inside (write o l v) = out (write o l v) refl
+by-window P out inside (port-read p w) = out (port-read p w) refl
+by-window P out inside (port-write p w v) = out (port-write p w v) refl
+by-window P out inside (host-update o m v) = out (host-update o m v) refl
+by-window P out inside end-signal = out end-signal refl
+by-window P out inside platform-reset = out platform-reset refl
+by-window P out inside (window w) = inside w
+
+elsewhere : {A : Type 0} (x : A) (f : WindowEvent → A) (e : Event) → inWindow true (λ (w : WindowEvent). false) e ≡ true → inWindow x f e ≡ x
+elsewhere x f (read o l) t = refl
+elsewhere x f (write o l v) t = refl
+elsewhere x f (port-read p w) t = refl
+elsewhere x f (port-write p w v) t = refl
+elsewhere x f (host-update o m v) t = refl
+elsewhere x f end-signal t = refl
+elsewhere x f platform-reset t = refl
+elsewhere x f (window w) t = absurd (subst T (sym t) tt)
+
+-- ---- what an event of the window makes of the registers: P, where the registers have it and the change that it comes to
+
+module _ (s : State) (P : Mapped → Type 0) (same : P (s .window)) where
+  unless : (b : Bool) (n : ℕ) (r : Outcome) → (b ≡ false → P (r .state .window)) → P (pick b (refused n s) r .state .window)
+  unless true n r h = same
+  unless false n r h = h refl
+
+  write-has : (o l v : ℕ) → P (windowWritten (s .window) o l v) → P (windowHappens (window-write o l v) s .state .window)
+  unfolding windowHappens windowWriteOf windowStepOf
+  write-has o l v h = unless (badWindow o) WINDOW-OFFSET _ (λ a. unless (badLanes l) LANES _ (λ b. pick-has (λ (t : State). P (t .window)) (busy s) s (withWindow s (windowWritten (s .window) o l v)) same h))
+
+  complete-has : (m : ℕ) → (beyond requestMask m ≡ false → P (withAssrreq (s .window) (masked (s .window .assrreq) m 0))) → P (windowHappens (complete m) s .state .window)
+  unfolding windowHappens completeOf
+  complete-has m h = unless (beyond requestMask m) NOT-HOST _ h
+
+  fault-has : (v : ℕ) → P (withFault (s .window) (faulted (s .window .fault) v)) → P (windowHappens (fault v) s .state .window)
+  unfolding windowHappens faultOf
+  fault-has v h = unless (beyond faultMask v) NOT-HOST _ (λ a. h)
+
+  mirror-has : (o m v : ℕ) → P (mirrored (s .window) o m v) → P (windowHappens (mirror-update o m v) s .state .window)
+  unfolding windowHappens mirrorUpdateOf
+  mirror-has o m v h = unless (badWindow o) WINDOW-OFFSET _ (λ a. unless (beyond (mirrorMask o) m) NOT-HOST _ (λ b. h))
+
+-- a guest write reaches FAULT_REG and ASSRREQ alone, a mirror update the mirrors
+module _ (P : Mapped → Type 0) (w : Mapped) (same : P w) where
+  written-has : (o l v : ℕ) → (o ≡ FAULT-REG → P (withFault w (acknowledged (w .fault) l v))) → P (withAssrreq w (requested (w .assrreq) l v)) → P (windowWritten w o l v)
+  unfolding windowWritten
+  written-has o l v f a = go (eqb o FAULT-REG) refl
+    where
+      go : (b : Bool) → eqb o FAULT-REG ≡ b → P (pick b (withFault w (acknowledged (w .fault) l v)) (pick (eqb o ASSRREQ) (withAssrreq w (requested (w .assrreq) l v)) w))
+      go true e = f (eqb→eq o FAULT-REG (subst T (sym e) tt))
+      go false e = pick-has P (eqb o ASSRREQ) _ w a same
+
+  mirrored-has : (o m v : ℕ) → P (withMtouud w (masked (w .mtouud) m v)) → P (withMtouudh w (masked (w .mtouudh) m v)) → P (withMbdsm w (masked (w .mbdsm) m v)) → P (mirrored w o m v)
+  unfolding mirrored
+  mirrored-has o m v a b c = pick-has P (eqb o MTOUUD) _ _ a (pick-has P (eqb o MTOUUD-HIGH) _ _ b (pick-has P (eqb o MBDSM) _ w c same))
+
+-- ---- 3. a fault that is held stays
+
+-- x is said of the test so that the case of a guest write can use it
+clear-only : (o l v x : ℕ) → both (eqb o FAULT-REG) (clears l v) ≡ false → o ≡ FAULT-REG → acknowledged x l v ≡ x
+unfolding acknowledged
+clear-only o l v x n e =
+    let c : clears l v ≡ false = rw e at n in
+    rw c
+
+fault-kept : (e : WindowEvent) (s : State) → bit (s .window .fault) 0 ≡ 1 → clearing e ≡ false → windowHappens e s .state .window .fault ≡ s .window .fault
+unfolding windowHappens cyclesOf faulted
+fault-kept (window-read o l) s t n = refl
+fault-kept (window-write o l v) s t n =
+    let P : Mapped → Type 0 = λ w. w .fault ≡ s .window .fault in
+    write-has s P refl o l v (written-has P (s .window) refl o l v (λ e. clear-only o l v (s .window .fault) n e) refl)
+fault-kept (complete m) s t n = complete-has s (λ w. w .fault ≡ s .window .fault) refl m (λ b. refl)
+fault-kept (fault v) s t n = fault-has s (λ w. w .fault ≡ s .window .fault) refl v (rw t)
+fault-kept (add-cycles c) s t n = refl
+fault-kept (mirror-update o m v) s t n =
+    let P : Mapped → Type 0 = λ w. w .fault ≡ s .window .fault in
+    mirror-has s P refl o m v (mirrored-has P (s .window) refl o m v refl refl refl)
+
+pub fault-locked : Locked
+unfolding happens
+fault-locked e s t = by-window (λ e. isReset e ≡ false → inWindow false clearing e ≡ false → happens e s .state .window .fault ≡ s .window .fault) (λ e out n c. ap (λ (w : Mapped). w .fault) (window-left e s n out)) (λ w n c. fault-kept w s t c) e
+
+-- ---- 1. the mirrors
+
+masked-bit : (x m v n : ℕ) → n < 32 → bit (masked x m v) n ≡ pick (eqb (bit m n) 1) (bit v n) (bit x n)
+unfolding masked
+masked-bit x m v n h = bit-number 32 (λ (n : ℕ). pick (eqb (bit m n) 1) (bit v n) (bit x n)) (λ j. pick-has (λ (y : ℕ). y < 2) (eqb (bit m j) 1) _ _ (bit<2 v j) (bit<2 x j)) n h
+
+-- a register F at o that guest writes, completions, faults and cycles leave, and that an update of o alone changes
+module _ (o : ℕ) (F : Mapped → ℕ) (shows : (w : Mapped) (n : ℕ) → windowBit w o n ≡ bit (F w) n) (no-fault : (w : Mapped) (x : ℕ) → F (withFault w x) ≡ F w) (no-request : (w : Mapped) (x : ℕ) → F (withAssrreq w x) ≡ F w) (no-cycles : (w : Mapped) (x : ℕ) → F (withCycles w x) ≡ F w) (updates : (w : Mapped) (p m v : ℕ) → F (mirrored w p m v) ≡ pick (eqb p o) (masked (F w) m v) (F w)) where
+  register-event : (e : WindowEvent) (s : State) (n : ℕ) → n < 32 → bit (F (windowHappens e s .state .window)) n ≡ orHeld (mirrorGives o n e) (bit (F (s .window)) n)
+  unfolding windowHappens cyclesOf mirrorUpdateOf
+  register-event (window-read p l) s n h = refl
+  register-event (window-write p l v) s n h =
+      let P : Mapped → Type 0 = λ w. bit (F w) n ≡ bit (F (s .window)) n in
+      write-has s P refl p l v (written-has P (s .window) refl p l v (λ e. ap (λ (x : ℕ). bit x n) (no-fault (s .window) _)) (ap (λ (x : ℕ). bit x n) (no-request (s .window) _)))
+  register-event (complete m) s n h = complete-has s (λ w. bit (F w) n ≡ bit (F (s .window)) n) refl m (λ b. ap (λ (x : ℕ). bit x n) (no-request (s .window) _))
+  register-event (fault v) s n h = fault-has s (λ w. bit (F w) n ≡ bit (F (s .window)) n) refl v (ap (λ (x : ℕ). bit x n) (no-fault (s .window) _))
+  register-event (add-cycles c) s n h = ap (λ (x : ℕ). bit x n) (no-cycles (s .window) _)
+  register-event (mirror-update p m v) s n h = go (badWindow p) (beyond (mirrorMask p) m)
+    where
+      given-there : (a b : Bool) (x : ℕ) → pick a (pick b (bit v n) x) x ≡ orHeld (pick (both a b) (given (bit v n)) nothing) x
+      given-there true true x = refl
+      given-there true false x = refl
+      given-there false b x = refl
+
+      changed : bit (F (mirrored (s .window) p m v)) n ≡ pick (eqb p o) (pick (eqb (bit m n) 1) (bit v n) (bit (F (s .window)) n)) (bit (F (s .window)) n)
+      changed = ap (λ (x : ℕ). bit x n) (updates (s .window) p m v) ∙ inside (eqb p o)
+        where
+          inside : (a : Bool) → bit (pick a (masked (F (s .window)) m v) (F (s .window))) n ≡ pick a (pick (eqb (bit m n) 1) (bit v n) (bit (F (s .window)) n)) (bit (F (s .window)) n)
+          inside true = masked-bit (F (s .window)) m v n h
+          inside false = refl
+
+      go : (a b : Bool) → bit (F (pick a (refused WINDOW-OFFSET s) (pick b (refused NOT-HOST s) (done (withWindow s (mirrored (s .window) p m v)))) .state .window)) n ≡ orHeld (pick (both (not (either a b)) (both (eqb p o) (eqb (bit m n) 1))) (given (bit v n)) nothing) (bit (F (s .window)) n)
+      go true b = refl
+      go false true = refl
+      go false false = changed ∙ given-there (eqb p o) (eqb (bit m n) 1) (bit (F (s .window)) n)
+
+  mirror-history : (n : ℕ) → n < 32 → bit (F freshWindow) n ≡ 0 → (es : List Event) → windowBit (run es .window) o n ≡ mirrorBit o n es
+  unfolding freshOf happens
+  mirror-history n h z es = shows (run es .window) n ∙ history isReset next freshOf reset-forgets (λ s. bit (F (s .window)) n) (λ s. Unit {0}) (inWindow nothing (mirrorGives o n)) event (λ e s r t. tt) tt es ∙ ap (orHeld (lastGiven (inWindow nothing (mirrorGives o n)) (since es))) z
+    where
+      event : (e : Event) (s : State) → isReset e ≡ false → Unit {0} → bit (F (happens e s .state .window)) n ≡ orHeld (inWindow nothing (mirrorGives o n) e) (bit (F (s .window)) n)
+      event e s = by-window (λ e. isReset e ≡ false → Unit {0} → bit (F (happens e s .state .window)) n ≡ orHeld (inWindow nothing (mirrorGives o n) e) (bit (F (s .window)) n)) (λ e out r t. ap (λ (w : Mapped). bit (F w) n) (window-left e s r out) ∙ rw (elsewhere nothing (mirrorGives o n) e out)) (λ w r t. register-event w s n h) e
+
+-- each mirror is changed where the update is its own
+another : (p x y : ℕ) → eqb x y ≡ false → eqb p x ≡ true → eqb p y ≡ true → ⊥
+another p x y n e f = subst T (sym f ∙ ap (λ (q : ℕ). eqb q y) (eqb→eq p x (subst T (sym e) tt)) ∙ n) tt
+
+module _ (w : Mapped) (p m v : ℕ) where
+  abbrev by : Bool → Bool → Bool → Mapped
+  by a b c = pick a (withMtouud w (masked (w .mtouud) m v)) (pick b (withMtouudh w (masked (w .mtouudh) m v)) (pick c (withMbdsm w (masked (w .mbdsm) m v)) w))
+
+  at-mtouud : mirrored w p m v .mtouud ≡ pick (eqb p MTOUUD) (masked (w .mtouud) m v) (w .mtouud)
+  unfolding mirrored
+  at-mtouud = go (eqb p MTOUUD) (eqb p MTOUUD-HIGH) (eqb p MBDSM)
+    where
+      go : (a b c : Bool) → by a b c .mtouud ≡ pick a (masked (w .mtouud) m v) (w .mtouud)
+      go true b c = refl
+      go false true c = refl
+      go false false true = refl
+      go false false false = refl
+
+  at-mtouudh : mirrored w p m v .mtouudh ≡ pick (eqb p MTOUUD-HIGH) (masked (w .mtouudh) m v) (w .mtouudh)
+  unfolding mirrored
+  at-mtouudh = go (eqb p MTOUUD) (eqb p MTOUUD-HIGH) (eqb p MBDSM) (another p MTOUUD MTOUUD-HIGH refl)
+    where
+      go : (a b c : Bool) → (a ≡ true → b ≡ true → ⊥) → by a b c .mtouudh ≡ pick b (masked (w .mtouudh) m v) (w .mtouudh)
+      go true true c n = absurd (n refl refl)
+      go true false c n = refl
+      go false true c n = refl
+      go false false true n = refl
+      go false false false n = refl
+
+  at-mbdsm : mirrored w p m v .mbdsm ≡ pick (eqb p MBDSM) (masked (w .mbdsm) m v) (w .mbdsm)
+  unfolding mirrored
+  at-mbdsm = go (eqb p MTOUUD) (eqb p MTOUUD-HIGH) (eqb p MBDSM) (another p MTOUUD MBDSM refl) (another p MTOUUD-HIGH MBDSM refl)
+    where
+      go : (a b c : Bool) → (a ≡ true → c ≡ true → ⊥) → (b ≡ true → c ≡ true → ⊥) → by a b c .mbdsm ≡ pick c (masked (w .mbdsm) m v) (w .mbdsm)
+      go true b true n k = absurd (n refl refl)
+      go true b false n k = refl
+      go false true true n k = absurd (k refl refl)
+      go false true false n k = refl
+      go false false true n k = refl
+      go false false false n k = refl
+
+mirror-cases : (P : ℕ → Type 0) → P MTOUUD → P MTOUUD-HIGH → P MBDSM → (o : ℕ) → isMirror o ≡ true → P o
+mirror-cases P low high base o t = go (eqb o MTOUUD) (eqb o MTOUUD-HIGH) (eqb o MBDSM) refl refl refl t
+  where
+    go : (a b c : Bool) → eqb o MTOUUD ≡ a → eqb o MTOUUD-HIGH ≡ b → eqb o MBDSM ≡ c → either a (either b c) ≡ true → P o
+    go true b c ea eb ec t = subst P (sym (eqb→eq o MTOUUD (subst T (sym ea) tt))) low
+    go false true c ea eb ec t = subst P (sym (eqb→eq o MTOUUD-HIGH (subst T (sym eb) tt))) high
+    go false false true ea eb ec t = subst P (sym (eqb→eq o MBDSM (subst T (sym ec) tt))) base
+    go false false false ea eb ec t = absurd (subst T (sym t) tt)
+
+pub mirrors : Mirrors
+unfolding windowBit
+mirrors es o n is h =
+    mirror-cases (λ o. windowBit (run es .window) o n ≡ mirrorBit o n es)
+    (mirror-history MTOUUD (λ w. w .mtouud) (λ w n. refl) (λ w x. refl) (λ w x. refl) (λ w x. refl) at-mtouud n h (bit-zero n) es)
+    (mirror-history MTOUUD-HIGH (λ w. w .mtouudh) (λ w n. refl) (λ w x. refl) (λ w x. refl) (λ w x. refl) at-mtouudh n h (bit-zero n) es)
+    (mirror-history MBDSM (λ w. w .mbdsm) (λ w n. refl) (λ w x. refl) (λ w x. refl) (λ w x. refl) at-mbdsm n h (bit-zero n) es)
+    o is
+
+-- every lane of lanes 15 is enabled
+enabled-15 : ℕ → Bool
+enabled-15 n = eqb (bit 15 (n / 8)) 1
+
+all-enabled : T (allBelow 32 enabled-15)
+unfolding enabled-15
+all-enabled = tt
+
+lane-15 : (n x : ℕ) → n < 32 → pick (eqb (bit 15 (n / 8)) 1) x undriven ≡ x
+unfolding enabled-15
+lane-15 n x h =
+    let on : eqb (bit 15 (n / 8)) 1 ≡ true = is-true _ (below 32 enabled-15 all-enabled n h) in
+    rw on
+
+pub mirrors-read : Mirrors-read
+unfolding windowReadOf windowReadBit
+mirrors-read es o is q =
+    let good : badWindow o ≡ false = mirror-cases (λ o. badWindow o ≡ false) refl refl refl o is in
+    rw good (ap ok (number-ext 32 _ _ (λ n h. lane-15 n _ h ∙ rw q (mirrors es o n is h))))
+
+-- ---- 2. the cycle sum
+
+-- x is y and c more, past 32 bits wrapped, and fits where y does
+abbrev Added : ℕ → ℕ → ℕ → Type 0
+Added x y c = (x % 2 ^ 32 ≡ (y + c) % 2 ^ 32) × (y < 2 ^ 32 → x < 2 ^ 32)
+
+uncounted : (x y : ℕ) → x ≡ y → Added x y 0
+uncounted x y e = (ap (λ (z : ℕ). z % 2 ^ 32) (e ∙ sym (add-zero y)), λ h. rw e h)
+
+sum-event : (e : WindowEvent) (s : State) → Added (windowHappens e s .state .window .cycles) (s .window .cycles) (counted e)
+unfolding windowHappens cyclesOf
+sum-event (window-read o l) s = uncounted _ _ refl
+sum-event (window-write o l v) s =
+    let P : Mapped → Type 0 = λ w. w .cycles ≡ s .window .cycles in
+    uncounted _ _ (write-has s P refl o l v (written-has P (s .window) refl o l v (λ e. refl) refl))
+sum-event (complete m) s = uncounted _ _ (complete-has s (λ w. w .cycles ≡ s .window .cycles) refl m (λ b. refl))
+sum-event (fault v) s = uncounted _ _ (fault-has s (λ w. w .cycles ≡ s .window .cycles) refl v refl)
+sum-event (add-cycles n) s = (omega arith, λ h. omega arith)
+sum-event (mirror-update o m v) s =
+    let P : Mapped → Type 0 = λ w. w .cycles ≡ s .window .cycles in
+    uncounted _ _ (mirror-has s P refl o m v (mirrored-has P (s .window) refl o m v refl refl refl))
+
+sum-next : (e : Event) (s : State) → isReset e ≡ false → Added (happens e s .state .window .cycles) (s .window .cycles) (inWindow 0 counted e)
+unfolding happens
+sum-next e s = by-window (λ e. isReset e ≡ false → Added (happens e s .state .window .cycles) (s .window .cycles) (inWindow 0 counted e)) (λ e out r. rw (elsewhere 0 counted e out) (uncounted _ _ (ap (λ (w : Mapped). w .cycles) (window-left e s r out)))) (λ w r. sum-event w s) e
+
+more : (z x y c t : ℕ) → Added z x t → Added x y c → Added z y (c + t)
+more z x y c t f e = (f .0 ∙ omega (arith, e .0), λ h. f .1 (e .1 h))
+
+sum-from : (es : List Event) (s : State) → anyReset es ≡ false → Added (runFrom s es .window .cycles) (s .window .cycles) (total es)
+unfolding ran P.anyReset total
+sum-from [] s n = uncounted _ _ refl
+sum-from (e ∷ es) s n = more _ _ _ (inWindow 0 counted e) (total es) (sum-from es (happens e s .state) (either-right (isReset e) (anyReset es) n)) (sum-next e s (either-left (isReset e) (anyReset es) n))
+
+pub cycle-sum : Sum
+unfolding freshOf
+cycle-sum es =
+    let a = sum-from (since es) freshOf (since-none es) in
+    ap (λ (s : State). s .window .cycles) (run-since es) ∙ sym (mod-eq-of-lt (a .1 (omega arith))) ∙ a .0 ∙ ap (λ (x : ℕ). x % 2 ^ 32) (zero-add (total (since es)))
+
+-- ---- 4. requests
+
+module _ (n : ℕ) (low : 4 ≤ n) (h : n < 32) where
+  abbrev Clear : Mapped → Type 0
+  Clear w = bit (w .assrreq) n ≡ 0
+
+  requested-above : (x l v : ℕ) → bit x n ≡ 0 → bit (requested x l v) n ≡ 0
+  unfolding requested
+  requested-above x l v z =
+      let above : ltb n 4 ≡ false = le-ltb n 4 low in
+      bit-number 32 (λ (j : ℕ). pick (asks l v j) 1 (bit x j)) (λ j. pick-has (λ (y : ℕ). y < 2) (asks l v j) 1 (bit x j) (omega arith) (bit<2 x j)) n h ∙ rw above z
+
+  request-event : (e : WindowEvent) (s : State) → Clear (s .window) → Clear (windowHappens e s .state .window)
+  unfolding windowHappens cyclesOf
+  request-event (window-read o l) s z = z
+  request-event (window-write o l v) s z = write-has s Clear z o l v (written-has Clear (s .window) z o l v (λ e. z) (requested-above (s .window .assrreq) l v z))
+  request-event (complete m) s z = complete-has s Clear z m (λ b. masked-bit (s .window .assrreq) m 0 n h ∙ pick-has (λ (y : ℕ). y ≡ 0) (eqb (bit m n) 1) (bit 0 n) (bit (s .window .assrreq) n) (bit-zero n) z)
+  request-event (fault v) s z = fault-has s Clear z v z
+  request-event (add-cycles c) s z = z
+  request-event (mirror-update o m v) s z = mirror-has s Clear z o m v (mirrored-has Clear (s .window) z o m v z z z)
+
+  request-next : (e : Event) (s : State) → Clear (s .window) → Clear (happens e s .state .window)
+  unfolding happens freshOf
+  request-next e s z = by-window (λ e. Clear (happens e s .state .window)) (λ e out. go e out (isReset e) refl) (λ w. request-event w s z) e
+    where
+      go : (e : Event) → inWindow true (λ (w : WindowEvent). false) e ≡ true → (b : Bool) → isReset e ≡ b → Clear (happens e s .state .window)
+      go e out true r = rw (reset-forgets e s r) (bit-zero n)
+      go e out false r = subst Clear (sym (window-left e s r out)) z
+
+pub requests : Requests
+unfolding freshOf
+requests es n low h = each-keeps (λ s. Clear n low h (s .window)) (request-next n low h) es freshOf (bit-zero n)
+
+-- ---- 6. while busy
+
+all-ones : (s : State) (o l : ℕ) → busy s ≡ true → laneValue (windowReadBit s o) l ≡ 0xFFFFFFFF
+unfolding windowReadBit numberOf
+all-ones s o l q = number-ext 32 (λ (n : ℕ). pick (eqb (bit l (n / 8)) 1) (windowReadBit s o n) undriven) (λ (n : ℕ). 1) (λ n h. rw q (pick-has (λ (y : ℕ). y ≡ 1) (eqb (bit l (n / 8)) 1) 1 undriven refl refl))
+
+pub window-busy : Window-busy
+unfolding windowReadOf windowWriteOf windowStepOf
+window-busy s q = (λ o l. rw (all-ones s o l q), λ o l v. rw q (go (badWindow o) (badLanes l)))
+  where
+    go : (a b : Bool) → pick a (refused WINDOW-OFFSET s) (pick b (refused LANES s) (done s)) .state ≡ s
+    go true b = refl
+    go false true = refl
+    go false false = refl
+
+-- ---- 7. how an address gets there
+
+-- the offset of a translation claim
+abbrev inside : Claimed → ℕ → Type 0
+inside unclaimed o = ⊥
+inside (claimed translation x) o = o ≡ x
+inside (claimed aperture x) o = ⊥
+inside (claimed io x) o = ⊥
+
+aperture-no : (s : State) (code a o : ℕ) → inside (apertureClaim s code a) o → ⊥
+unfolding apertureClaim
+aperture-no s code a o = go (eqb code 2) (holds (apertureBase s) (exponentOf code) a)
+  where
+    go : (x y : Bool) → inside (pick x unclaimed (pick y (claimed aperture (a % 2 ^ exponentOf code)) unclaimed)) o → ⊥
+    go true b h = h
+    go false true h = h
+    go false false h = h
+
+claimed-inside : (s : State) (a o : ℕ) → inside (memoryClaimOf s a) o → o ≡ a % 2 ^ translationExponent
+unfolding memoryClaimOf
+claimed-inside s a o = go (eqb (bit (byte s PCICMD2) 1) 0) (off s) (holds (translationBase s) translationExponent a)
+  where
+    go : (x y z : Bool) → inside (pick x unclaimed (pick y unclaimed (pick z (claimed translation (a % 2 ^ translationExponent)) (apertureClaim s (sizeOf (byte s MSAC)) a)))) o → o ≡ a % 2 ^ translationExponent
+    go true y z h = absurd h
+    go false true z h = absurd h
+    go false false true h = h
+    go false false false h = absurd (aperture-no s (sizeOf (byte s MSAC)) a o h)
+
+pub claimed-reached : Claimed-reached
+claimed-reached s a o e four =
+    let is : o ≡ a % 2 ^ translationExponent = claimed-inside s a o (rw e refl) in
+    let small : ltb 0x3FFFFF o ≡ false = le-ltb 0x3FFFFF o (omega (arith, is)) in
+    let whole : eqb (o % 4) 0 ≡ true = eq-eqb (o % 4) 0 (omega (arith, is, four)) in
+    rw (small, whole)

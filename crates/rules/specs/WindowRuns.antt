@@ -1,0 +1,105 @@
+-- What holds of the window (W-207), clause by clause: after every run, or of every event in every state.
+use mathlib.Core.Path.{_≡_}
+use mathlib.Core.List.{List, [], _∷_}
+use mathlib.Core.Bool.{Bool, true, false, not}
+use Prim.Native.Nat.{ℕ, _+_, _%_, _^_, _≤_, _<_}
+use Rattle.bits.specs.Bits.{bit, numberOf}
+use Rattle.bits.specs.Choice.{if_then_else_, _and_, _or_, _is_}
+use Rattle.answer.specs.Refusals.{ok, WINDOW-OFFSET}
+use Rattle.rules.specs.declared.State.{State}
+use Rattle.rules.specs.Access.{busy, replyAt}
+use Rattle.rules.specs.Past.{Given, nothing, given, orHeld, lastGiven}
+use Rattle.rules.specs.Claims.{claimed, translation, memoryClaimOf}
+use Rattle.rules.specs.Window.{FAULT-REG, MTOUUD, MTOUUD-HIGH, MBDSM, badWindow, windowBit, windowReadOf, clears, windowWriteOf, beyond, mirrorMask}
+use Rattle.rules.specs.Events.{WindowEvent, window-read, window-write, complete, fault, add-cycles, mirror-update, windowHappens, Event, read, write, port-read, port-write, host-update, end-signal, platform-reset, window, happens, run}
+use Rattle.rules.specs.History.{isReset, since}
+
+-- ---- 1. demand 3's read-only clause, of the mirrors
+
+abbrev pub isMirror : ℕ → Bool
+isMirror o = o is MTOUUD or o is MTOUUD-HIGH or o is MBDSM
+
+-- of events in the window and no others
+abbrev pub inWindow {ℓ} : {A : Type ℓ} → A → (WindowEvent → A) → Event → A
+inWindow x f (read o l) = x
+inWindow x f (write o l v) = x
+inWindow x f (port-read p w) = x
+inWindow x f (port-write p w v) = x
+inWindow x f (host-update o m v) = x
+inWindow x f end-signal = x
+inWindow x f platform-reset = x
+inWindow x f (window e) = f e
+
+-- what an event gives bit n of the mirror at o, if it is an accepted update that masks it
+abbrev pub mirrorGives : ℕ → ℕ → WindowEvent → Given
+mirrorGives o n (window-read p l) = nothing
+mirrorGives o n (window-write p l v) = nothing
+mirrorGives o n (complete m) = nothing
+mirrorGives o n (fault v) = nothing
+mirrorGives o n (add-cycles c) = nothing
+mirrorGives o n (mirror-update p m v) = if not (badWindow p or beyond (mirrorMask p) m) and p is o and bit m n is 1 then given (bit v n) else nothing
+
+-- the last of them since the last platform reset, or the start; 0 where there is none
+abbrev pub mirrorBit : ℕ → ℕ → List Event → ℕ
+mirrorBit o n es = orHeld (lastGiven (inWindow nothing (mirrorGives o n)) (since es)) 0
+
+abbrev pub Mirrors : Type 0
+Mirrors = (es : List Event) (o n : ℕ) → isMirror o ≡ true → n < 32 → windowBit (run es .window) o n ≡ mirrorBit o n es
+
+-- for a reader's eye: what a guest reads there, where no function reset is under way
+abbrev pub Mirrors-read : Type 0
+Mirrors-read = (es : List Event) (o : ℕ) → isMirror o ≡ true → busy (run es) ≡ false → windowReadOf (run es) o 15 ≡ ok (numberOf 32 (λ (n : ℕ). mirrorBit o n es))
+
+-- ---- 2. the cycle sum is that of the counts added since then, past 32 bits wrapped
+
+abbrev pub counted : WindowEvent → ℕ
+counted (window-read o l) = 0
+counted (window-write o l v) = 0
+counted (complete m) = 0
+counted (fault v) = 0
+counted (add-cycles n) = n
+counted (mirror-update o m v) = 0
+
+unfoldable pub total : List Event → ℕ
+total [] = 0
+total (e ∷ es) = inWindow 0 counted e + total es
+
+abbrev pub Sum : Type 0
+Sum = (es : List Event) → run es .window .cycles ≡ total (since es) % 2 ^ 32
+
+-- ---- 3. a fault that is held stays, but for a platform reset and a guest write that clears it
+
+abbrev pub clearing : WindowEvent → Bool
+clearing (window-read o l) = false
+clearing (window-write o l v) = o is FAULT-REG and clears l v
+clearing (complete m) = false
+clearing (fault v) = false
+clearing (add-cycles n) = false
+clearing (mirror-update o m v) = false
+
+abbrev pub Locked : Type 0
+Locked = (e : Event) (s : State) → bit (s .window .fault) 0 ≡ 1 → isReset e ≡ false → inWindow false clearing e ≡ false → happens e s .state .window .fault ≡ s .window .fault
+
+-- ---- 4. of ASSRREQ only bits 3:0 are ever held
+
+abbrev pub Requests : Type 0
+Requests = (es : List Event) (n : ℕ) → 4 ≤ n → n < 32 → bit (run es .window .assrreq) n ≡ 0
+
+-- ---- 5. a function reset leaves the window as it is, at its start and at its end: so does every event but a platform reset and those of the window
+
+abbrev pub Left : Type 0
+Left = (e : Event) (s : State) → isReset e ≡ false → inWindow true (λ (w : WindowEvent). false) e ≡ true → happens e s .state .window ≡ s .window
+
+-- and those of the window leave all else
+abbrev pub Apart : Type 0
+Apart = (e : WindowEvent) (s : State) → (windowHappens e s .state .bytes ≡ s .bytes) × (windowHappens e s .state .latch ≡ s .latch) × (windowHappens e s .state .flags ≡ s .flags)
+
+-- ---- 6. while busy an accepted read gives FFFFFFFF, and a write changes nothing
+
+abbrev pub Window-busy : Type 0
+Window-busy = (s : State) → busy s ≡ true → ((o l : ℕ) → windowReadOf s o l ≡ replyAt (badWindow o) WINDOW-OFFSET l 0xFFFFFFFF) × ((o l v : ℕ) → windowWriteOf s o l v .state ≡ s)
+
+-- ---- 7. how an address gets there: the offset of a claim of the translation window, of a multiple of 4, is an offset of the window
+
+abbrev pub Claimed-reached : Type 0
+Claimed-reached = (s : State) (a o : ℕ) → memoryClaimOf s a ≡ claimed translation o → a % 4 ≡ 0 → badWindow o ≡ false
