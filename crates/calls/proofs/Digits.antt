@@ -16,7 +16,7 @@ use Rattle.lines.specs.Line.{at, digitOf}
 use Rattle.lines.proofs.Digits.{Digits, readFrom, Reads, printed-reads, reads-printed}
 use Rattle.lines.proofs.Exactly.{apart}
 use Rattle.calls.specs.declared.Hex.the-variants.{Value, Bad}
-use Rattle.calls.specs.Call.{hexFrom, number}
+use Rattle.calls.specs.Call.{hexFrom}
 
 pub stops : (k : ℕ) (l : List ℕ) (i v : ℕ) → 15 < digitOf (getD l i 0) → hexFrom (suc k) l i v ≡ Bad
 unfolding hexFrom
@@ -30,13 +30,13 @@ goes k l i v h = search tests
 pub grown : (j v d : ℕ) → v < 16 ^ j → d ≤ 15 → v * 16 + d < 16 ^ (j + 1)
 grown j v d h g = rw (add-one, pow-suc) (omega arith)
 
--- sixteen digits fit
-pub sixteen : (j v : ℕ) → j ≤ 16 → v < 16 ^ j → v < 2 ^ 64
-sixteen j v h g = omega (arith, pow-le-pow-right {n = 16} (omega arith) {j = 16} h)
+-- a number of fewer digits is within those of more
+pub within : (k j v : ℕ) → j ≤ k → v < 16 ^ j → v < 16 ^ k
+within k j v h g = omega (arith, pow-le-pow-right {n = 16} (omega arith) {j = k} h)
 
 -- ---- k digits from place i on are read as a number exactly when they are that number, printed
 
-not-bad : (v : ℕ) → Bad ≡ Value v → ⊥
+pub not-bad : (v : ℕ) → Bad ≡ Value v → ⊥
 not-bad v e = apart cc
 
 -- digits are read
@@ -57,7 +57,7 @@ value-digits (suc k) l i v n e =
           ((omega arith, r .0), r .1)
     ]
 
-pub number-exactly : (l : List ℕ) (i k v : ℕ) → (number l i k ≡ Value v) ↔ ((v < 16 ^ k) × (hexOf k v ≡ from k (at l) i))
+pub number-exactly : (l : List ℕ) (i k v : ℕ) → (hexFrom k l i 0 ≡ Value v) ↔ ((v < 16 ^ k) × (hexOf k v ≡ from k (at l) i))
 number-exactly l i k v = (
   λ e. let r = value-digits k l i 0 v e in let p : Reads (from k (at l) i) v = record { digits = r .0; says = r .1 } in rw (length-from k (at l) i) at (reads-printed p),
   λ r. let p : Reads (from k (at l) i) v = rw (r .1) at (printed-reads k v (r .0)) in digits-value k l i 0 (p .digits) ∙ ap Value (sym (p .says)),

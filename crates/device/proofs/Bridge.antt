@@ -27,7 +27,7 @@ module _ (m : List ℕ) (b : (i : ℕ) → getD m i 0 < 2 ^ 8) where
 
   pub read-is : (o l : ℕ) → readBytes m o l ≡ readOf m o l
   unfolding readBytes readOf
-  read-is o l = reply-is o l (drivenOf l (dwordOf m o)) (shownValue (held m) o l) (λ h k. driven-is (held m) o l (dwordOf m o) (dword-bit o))
+  read-is o l = reply-is o l (drivenOf l (dwordOf m o)) (shownValue (held m) o l) (λ h k. driven-is (λ (n : ℕ). held m (o + n / 8) (n % 8)) l (dwordOf m o) (dword-bit o))
 
   module _ (n : length m ≡ 256) where
     stored-list : (guests : List ℕ) (o l v : ℕ) → o + 3 < 256 → storedBytes guests m o l v ≡ made (writtenBit (under guests) (held m) o l v)

@@ -11,12 +11,12 @@ use lib.ListN.{length, getD}
 use Rattle.bits.specs.Bits.{bit, numberOf, byteOf, joined, blendK}
 use Rattle.bits.specs.Choice.{pick, _is_, allBelow}
 use Rattle.bits.specs.Places.{bytes}
-use Rattle.bits.proofs.Laws.{number-ext, number-bits, bit-low, byte-bit, bit-number, bit-zero, bit<2, blend-each, little-bits, joined-little}
+use Rattle.bits.proofs.Laws.{number-ext, number-bits, bit-low, bit-number, bit-zero, bit<2, blend-each, little-bits, joined-little}
 use Rattle.bits.proofs.Below.{below}
 use Rattle.bits.proofs.Places.{as-bytes, length-mapN, getD-mapN, length-put4, put4-at}
 use Rattle.answer.specs.Refusals.{ok, no, OFFSET, LANES}
-use Rattle.rules.specs.Access.{enabled, byteFor, badOffset, badLanes}
-use Rattle.rules.specs.Plain.{Bits, Mask, held, under, undriven, shownValue, readReply, storedOver, writtenBit, returnedBit}
+use Rattle.rules.specs.Access.{enabled, badOffset, badLanes}
+use Rattle.rules.specs.Plain.{Mask, held, under, undriven, laneValue, readReply, storedOver, writtenBit, returnedBit}
 use Rattle.rules.proofs.Access.{good-offset, enabled-at, byteFor-at, not-within}
 use Rattle.plain.specs.Bytes.{spreadOf, drivenOf, ifEnabled, laneOf, storedOf, returnedByte, returnedOf}
 
@@ -47,19 +47,13 @@ spread-bit l n h =
 high-bit : (n : ℕ) → n < 32 → bit 0xFFFFFFFF n ≡ undriven
 high-bit n h = eqb→eq _ _ (below 32 (λ (n : ℕ). eqb (bit 0xFFFFFFFF n) undriven) tt n h)
 
--- the bits that a dword has for its bytes
-dword-bits : (d n : ℕ) → bit (byteFor 0 d (0 + n / 8)) (n % 8) ≡ bit d n
-dword-bits d n =
-    let whole : 8 * (n / 8) + n % 8 ≡ n = omega arith in
-    ap (λ (x : ℕ). bit x (n % 8)) (byteFor-at 0 d (n / 8)) ∙ byte-bit d (n / 8) (n % 8) (omega arith) ∙ ap (bit d) whole
-
 -- the enabled bytes of a dword over a bus that is pulled high
 pub blended-is : (l d : ℕ) → blendK 32 (spreadOf l) 0xFFFFFFFF d ≡ drivenOf l d
 unfolding drivenOf
 blended-is l d =
     blend-each 32 (spreadOf l) 0xFFFFFFFF d
-    ∙ number-ext 32 (λ (n : ℕ). pick (eqb (bit (spreadOf l) n) 1) (bit d n) (bit 0xFFFFFFFF n)) (λ (n : ℕ). pick (eqb (bit l (n / 8)) 1) (bit (byteFor 0 d (0 + n / 8)) (n % 8)) undriven)
-    (λ n h. rw (spread-bit l n h, high-bit n h, dword-bits d n))
+    ∙ number-ext 32 (λ (n : ℕ). pick (eqb (bit (spreadOf l) n) 1) (bit d n) (bit 0xFFFFFFFF n)) (λ (n : ℕ). pick (eqb (bit l (n / 8)) 1) (bit d n) undriven)
+    (λ n h. rw (spread-bit l n h, high-bit n h))
 
 -- bit n of the dword that four bytes make is bit n % 8 of byte n / 8
 pub joined-bit : (f : ℕ → ℕ) → ((k : ℕ) → f k < 2 ^ 8) → (n : ℕ) → n < 32 → bit (joined (f 0) (f 1) (f 2) (f 3)) n ≡ bit (f (n / 8)) (n % 8)
@@ -67,12 +61,10 @@ joined-bit f small n h =
     let whole : joined (f 0) (f 1) (f 2) (f 3) ≡ numberOf 32 (λ (n : ℕ). bit (f (n / 8)) (n % 8)) = joined-little f ∙ sym (little-bits 4 f small) in
     ap (λ (x : ℕ). bit x n) whole ∙ bit-number 32 (λ (n : ℕ). bit (f (n / 8)) (n % 8)) (λ n. bit<2 (f (n / 8)) (n % 8)) n h
 
--- the read of a dword whose bits are b's from byte o on
-pub driven-is : (b : Bits) (o l d : ℕ) → ((n : ℕ) → n < 32 → bit d n ≡ b (o + n / 8) (n % 8)) → drivenOf l d ≡ shownValue b o l
+-- the read of a dword whose bits are b's
+pub driven-is : (b : ℕ → ℕ) (l d : ℕ) → ((n : ℕ) → n < 32 → bit d n ≡ b n) → drivenOf l d ≡ laneValue b l
 unfolding drivenOf
-driven-is b o l d e =
-    number-ext 32 (λ (n : ℕ). pick (eqb (bit l (n / 8)) 1) (bit (byteFor 0 d (0 + n / 8)) (n % 8)) undriven) (λ (n : ℕ). pick (eqb (bit l (n / 8)) 1) (b (o + n / 8) (n % 8)) undriven)
-    (λ n h. rw (dword-bits d n, e n h))
+driven-is b l d e = number-ext 32 (λ (n : ℕ). pick (eqb (bit l (n / 8)) 1) (bit d n) undriven) (λ (n : ℕ). pick (eqb (bit l (n / 8)) 1) (b n) undriven) (λ n h. rw (e n h))
 
 -- two values that agree where the access is accepted make one reply
 pub reply-is : (o l x y : ℕ) → (o + 3 < 256 → l < 16 → x ≡ y) → readReply o l x ≡ readReply o l y

@@ -5,16 +5,15 @@ use lib.ListN.{getD}
 use Rattle.bits.specs.Bits.{bit, blendK}
 use Rattle.bits.specs.Choice.{if_then_else_, _is_}
 use Rattle.bits.specs.Places.{mapN, put4Of}
-use Rattle.rules.specs.Access.{byteFor}
-use Rattle.rules.specs.Plain.{shownValue}
+use Rattle.rules.specs.Plain.{laneValue}
 
 -- FF in each enabled lane
 unfoldable pub spreadOf : ℕ → ℕ
 spreadOf l = l % 2 * 255 + l / 2 % 2 * 65280 + l / 4 % 2 * 16711680 + l / 8 % 2 * 4278190080
 
--- the read of a dword with lanes l: of the bits that it has for each byte
+-- the read of a dword with lanes l
 unfoldable pub drivenOf : ℕ → ℕ → ℕ
-drivenOf l d = shownValue (λ (i : ℕ). bit (byteFor 0 d i)) 0 l
+drivenOf l d = laneValue (bit d) l
 
 unfoldable pub ifEnabled : ℕ → ℕ → ℕ
 ifEnabled on mask = if on is 1 then mask else 0

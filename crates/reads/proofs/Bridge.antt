@@ -76,7 +76,7 @@ module _ (s : State) (b : (i : ℕ) → byte s i < 2 ^ 8) where
 
   value-is : (o l : ℕ) → o + 3 < 256 → l < 16 → drivenOf l (readDword (busy s) (s .bytes) o) ≡ readValue s o l
   unfolding readValue
-  value-is o l h k = driven-is (readBit s) o l (readDword (busy s) (s .bytes) o) (λ n j. dword-bit o n h j)
+  value-is o l h k = driven-is (λ (n : ℕ). readBit s (o + n / 8) (n % 8)) l (readDword (busy s) (s .bytes) o) (λ n j. dword-bit o n h j)
 
   pub read-is : (o l : ℕ) → readLanes (busy s) (s .bytes) o l ≡ readOf s o l
   unfolding readLanes readOf

@@ -17,7 +17,7 @@ use Rattle.map.specs.Class.{resetStart, hasF, sameClass}
 use Rattle.map.specs.Map.{rows, rowAt, classOf, resets, defaults, resetAt, defaultAt}
 use Rattle.map.proofs.Classes.{reset-bit}
 use Rattle.rules.specs.declared.State.{State}
-use Rattle.rules.specs.Access.{byte, busy}
+use Rattle.rules.specs.Access.{holding, byte, busy}
 use Rattle.rules.specs.Reset.{reset, endedBit, idle, endedOf, endOf}
 use Rattle.plain.proofs.Bridge as P
 use Rattle.plain.proofs.Bridge.{length-returned}
@@ -80,11 +80,11 @@ module _ (s : State) (n : length (s .bytes) ≡ 256) where
       changed D R (returned (s .bytes)) AFCTL _ (length-returned (s .bytes) n resets defaults) returned-at
       (rw (returned-at AFCTL (omega arith)) reset-start) reset-other
 
-  -- the state that lent bytes and flags make, with the latch as it was
-  pub end-is : record { bytes = endBytes (s .flags) (s .bytes); latch = s .latch; flags = endFlags (s .flags) } ≡ endOf s
+  -- the state that lent bytes and flags make, with all else as it was
+  pub end-is : holding s (endBytes (s .flags) (s .bytes)) (endFlags (s .flags)) ≡ endOf s
   unfolding endBytes endFlags endOf endedOf
   end-is = go (busy s)
     where
-      go : (b : Bool) → record { bytes = pick b (resetBytes (s .bytes)) (s .bytes); latch = s .latch; flags = pick b (idle (s .flags)) (s .flags) } ≡ pick b (endedOf s) s
+      go : (b : Bool) → holding s (pick b (resetBytes (s .bytes)) (s .bytes)) (pick b (idle (s .flags)) (s .flags)) ≡ pick b (endedOf s) s
       go true = rw reset-list
       go false = refl

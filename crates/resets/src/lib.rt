@@ -1,8 +1,9 @@
-// The end of a function reset, over 256 bytes that are lent; and the flags of the fresh state.
+// The end of a function reset, over 256 bytes that are lent; and the flags and the window of the fresh state.
 ghost use mathlib.Core.Path.{_≡_};
-ghost use Rattle.rules.specs.Fresh.{freshFlags};
+ghost use Rattle.rules.specs.Fresh.{freshFlags, freshWindow};
 ghost use Rattle.resets.specs.Bytes.{resetBytes, endBytes, endFlags};
 use rules::Flags;
+use rules::Mapped;
 
 // F bits return to default, and the bit that starts the reset reads 0.
 fn reset(m: &mut [u8; 256])
@@ -40,5 +41,19 @@ pub fn fresh_flags() -> Flags
         sid2: 0,
         swsci15: 0,
         busy: 0,
+    }
+}
+
+// And of the window: it is clear.
+pub fn fresh_window() -> Mapped
+    ensures { λ r. ⌜ r ≡ freshWindow ⌝ }
+{
+    Mapped {
+        fault: 0,
+        assrreq: 0,
+        mtouud: 0,
+        mtouudh: 0,
+        mbdsm: 0,
+        cycles: 0,
     }
 }

@@ -338,7 +338,7 @@ requests es n low h = each-keeps (λ s. Clear n low h (s .window)) (request-next
 
 -- ---- 6. while busy
 
-all-ones : (s : State) (o l : ℕ) → busy s ≡ true → laneValue (windowReadBit s o) l ≡ 0xFFFFFFFF
+pub all-ones : (s : State) (o l : ℕ) → busy s ≡ true → laneValue (windowReadBit s o) l ≡ 0xFFFFFFFF
 unfolding windowReadBit numberOf
 all-ones s o l q = number-ext 32 (λ (n : ℕ). pick (eqb (bit l (n / 8)) 1) (windowReadBit s o n) undriven) (λ (n : ℕ). 1) (λ n h. rw q (pick-has (λ (y : ℕ). y ≡ 1) (eqb (bit l (n / 8)) 1) 1 undriven refl refl))
 

@@ -68,10 +68,12 @@ pub fn fresh() -> State
 {
     let bytes = map::all_defaults();
     let flags = resets::fresh_flags();
+    let window = resets::fresh_window();
     State {
         bytes,
         latch: 0,
         flags,
+        window,
     }
 }
 

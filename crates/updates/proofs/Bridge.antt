@@ -18,7 +18,7 @@ use Rattle.map.specs.Class.{isHost}
 use Rattle.map.specs.Map.{classOf, hosts}
 use Rattle.map.proofs.Classes.{host-bit}
 use Rattle.rules.specs.declared.State.{State}
-use Rattle.rules.specs.Access.{byte, Outcome, done, refused}
+use Rattle.rules.specs.Access.{holding, byte, Outcome, done, refused}
 use Rattle.rules.specs.Plain as P
 use Rattle.rules.specs.Plain.{Mask, held, under, updatedBit}
 use Rattle.rules.specs.Host.{notHost, hostBit, hostStepOf, hostOf}
@@ -64,9 +64,9 @@ map-has : (i j : ℕ) → i < 256 → j < 8 → under hosts i j ≡ isHost (clas
 map-has i j h k = rw (host-bit i j h k) (mark-is (isHost (classOf i j)))
 
 module _ (s : State) (n : length (s .bytes) ≡ 256) (b : (i : ℕ) → byte s i < 2 ^ 8) where
-  -- the state that lent bytes make, with latch and flags as they were
+  -- the state that lent bytes make, with all else as it was
   abbrev pub whole : Lent → Outcome
-  whole r = record { reply = r .reply; state = record { bytes = r .bytes; latch = s .latch; flags = s .flags } }
+  whole r = record { reply = r .reply; state = holding s (r .bytes) (s .flags) }
 
   pub update-is : (o mask v : ℕ) → whole (updateBytes hosts (s .bytes) o mask v) ≡ hostOf s o mask v
   unfolding hostOf hostStepOf hostBit notHost

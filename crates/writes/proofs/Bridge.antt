@@ -17,7 +17,7 @@ use Rattle.map.specs.Registers.{GMADR, MSAC}
 use Rattle.map.specs.Map.{classOf, maskAt, guests}
 use Rattle.map.proofs.Blends.{blend-by}
 use Rattle.rules.specs.declared.State.{State}
-use Rattle.rules.specs.Access.{byte, busy, enabled, byteFor, badOffset, badLanes, Outcome, done, refused}
+use Rattle.rules.specs.Access.{holding, byte, busy, enabled, byteFor, badOffset, badLanes, Outcome, done, refused}
 use Rattle.rules.specs.Guest.{sizeOf, takenBy, takes, store, clear, storedBit, sizeAfter, bitAfter, flagsAfter, writtenOf, stepOf, writeOf}
 use Rattle.rules.proofs.Access.{good-offset, byteFor-at, stored<2, no-aperture}
 use Rattle.rules.specs.Plain.{Mask}
@@ -90,9 +90,9 @@ module _ (s : State) (n : length (s .bytes) ≡ 256) (b : (i : ℕ) → byte s i
   step-list o l v h =
       ap (clearIf (enabled o l MSAC)) (stored-list s o l v h n b) ∙ clear-if (storedBit s o l v) (stored<2 s o l v) (enabled o l MSAC)
 
-  -- the state that lent bytes and flags make, with the latch as it was
+  -- the state that lent bytes and flags make, with all else as it was
   abbrev pub whole : Lent → Outcome
-  whole r = record { reply = r .reply; state = record { bytes = r .bytes; latch = s .latch; flags = r .flags } }
+  whole r = record { reply = r .reply; state = holding s (r .bytes) (r .flags) }
 
   pub write-is : (o l v : ℕ) → whole (writeLanes guests (s .flags) (s .bytes) o l v) ≡ writeOf s o l v
   unfolding writeLanes writeOf stepOf writtenOf

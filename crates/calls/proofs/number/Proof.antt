@@ -5,7 +5,7 @@ use Prim.Native.Nat.{suc, _≤_, _<_, _-_, _+_, _*_, _^_}
 use native.Mathlib.Omega.{arith}
 use native.Mathlib.Nat.{add-zero, add-assoc, sub-zero}
 use Rattle.calls.specs.Call.{hexFrom}
-use Rattle.calls.proofs.Digits.{stops, goes, grown, sixteen}
+use Rattle.calls.proofs.Digits.{stops, goes, grown, within}
 use Rattle.calls.proofs.number.Statement.{statement}
 use Rattle.calls.proofs.number.Tie as tie
 
@@ -38,7 +38,7 @@ returns c =
 fits : (c : tie.Else1 Inv-loop μ-loop) → c .before .before .before .before .loop .v * 16 + c .before .digit .result < 2 ^ 64
 fits c =
     let d = c .before .before .before .before in
-    sixteen (d .loop .j + 1) _ (omega arith) (grown (d .loop .j) (d .loop .v) (c .before .digit .result) (d .loop .inv .1) (c .if1 .left))
+    within 16 (d .loop .j + 1) _ (omega arith) (grown (d .loop .j) (d .loop .v) (c .before .digit .result) (d .loop .inv .1) (c .if1 .left))
 
 mul-v : tie.Need-mul-v Inv-loop μ-loop
 mul-v c = omega (arith, fits c)

@@ -48,6 +48,7 @@ use borrow.Author.Needs.{needs}
 use lib.ListN.{length, getD}
 use Rattle.answer.specs.Refusals.{no}
 use Rattle.map.specs.Map.{guests}
+use Rattle.rules.specs.Access.{holding}
 use Rattle.rules.specs.declared.State.{State}
 use Rattle.rules.specs.declared.Flags.{Flags}
 use Rattle.rules.specs.Guest.{writeOf}
@@ -111,13 +112,13 @@ flags-are r is = LL.owed S.the-type S′.the-laws r (svals r) is .1 .0
 
 -- the record at other bytes, and with other flags
 abbrev new : State → List ℕ → State
-new h z = record { bytes = z; latch = h .latch; flags = h .flags }
+new h z = holding h z (h .flags)
 
 abbrev last : State → List ℕ → Flags → State
-last h z c = record { bytes = z; latch = h .latch; flags = c }
+last h z c = holding h z c
 
 last-is : (h : State) (z : List ℕ) (c : Flags) → Is T.the-row (new h z) (vals (new h z)) → Is K.the-row c (kvals c) → Is T.the-row (last h z c) (vals (last h z c))
-last-is h z c was is = let g = LL.owed T.the-type T′.the-laws (new h z) (vals (new h z)) was in LL.owes T.the-type T′.the-laws (last h z c) (g .0, (g .1 .0, (is, tt)))
+last-is h z c was is = let g = LL.owed T.the-type T′.the-laws (new h z) (vals (new h z)) was in LL.owes T.the-type T′.the-laws (last h z c) (g .0, (g .1 .0, (is, (g .1 .1 .1 .0, tt))))
 
 -- the contract that the proof cites
 abbrev Put : {M : Type 1} (𝓤 : URA M) (H : Heap 𝓤) (A : Atoms 𝓤) (at-mem : Memory → SProp 𝓤) (run : Routine → Fun 𝓤) → Contract 𝓤

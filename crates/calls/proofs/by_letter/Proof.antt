@@ -1,0 +1,25 @@
+-- A line by its letter.
+use Rattle.bits.proofs.Tests.{tests}
+use Rattle.calls.specs.Call.{byLetterOf}
+use borrow.Author.Needs.{needs}
+use Rattle.calls.proofs.by_letter.Statement.{statement}
+use Rattle.calls.proofs.by_letter.Tie as tie
+
+pub by-letter-spec : {M : Type 1} → statement M
+unfolding byLetterOf
+by-letter-spec =
+    tie.close
+    (tie.spec
+    (λ c κs. search needs) (λ c. search (tests, c .port-write .ensures))
+    (λ c κs. search needs) (λ c. search (tests, c .port-read .ensures))
+    (λ c κs. search needs) (λ c. search (tests, c .memory-address .ensures))
+    (λ c κs. search needs) (λ c. search (tests, c .io-port .ensures))
+    (λ c κs. search needs) (λ c. search (tests, c .size-probe .ensures))
+    (λ c κs. search needs) (λ c. search (tests, c .list-walk .ensures))
+    (λ c κs. search needs) (λ c. search (tests, c .window-write .ensures))
+    (λ c κs. search needs) (λ c. search (tests, c .window-read .ensures))
+    (λ c κs. search needs) (λ c. search (tests, c .complete .ensures))
+    (λ c κs. search needs) (λ c. search (tests, c .fault .ensures))
+    (λ c κs. search needs) (λ c. search (tests, c .cycles .ensures))
+    (λ c κs. search needs) (λ c. search (tests, c .mirror .ensures))
+    (λ c κs. search needs) (λ c. search (tests, c .parse .ensures)))

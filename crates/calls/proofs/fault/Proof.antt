@@ -1,0 +1,18 @@
+-- `F vvvvvvvv`: the call of its number.
+use mathlib.Core.Path.{sym, _∙_}
+use Rattle.calls.proofs.Fields.{one-form}
+use borrow.Author.Needs.{needs}
+use Rattle.calls.proofs.fault.Statement.{statement}
+use Rattle.calls.proofs.fault.Tie as tie
+
+pub fault-spec : {M : Type 1} → statement M
+fault-spec =
+    tie.close
+    (tie.spec
+    (λ c κs. search needs)
+    (λ c. search needs)
+    (λ c. record { fits = one-form _ 8 _ (sym (c .before .before .before .one .ensures) ∙ c .before .v .given .1) .0 })
+    (λ c. search needs)
+    (λ c κs. search needs)
+    (λ c. rw (sym (c .before .before .before .one .ensures) ∙ c .before .v .given .1))
+    (λ c. rw (c .none .ensures, sym (c .before .before .before .one .ensures) ∙ c .before .enum-told .given .1)))

@@ -1,0 +1,16 @@
+-- `U oooooo l`: the call of its numbers.
+use mathlib.Core.Path.{sym, _∙_}
+use borrow.Author.Needs.{needs}
+use Rattle.calls.proofs.window_read.Statement.{statement}
+use Rattle.calls.proofs.window_read.Tie as tie
+
+pub window-read-spec : {M : Type 1} → statement M
+window-read-spec =
+    tie.close
+    (tie.spec
+    (λ c κs. search needs)
+    (λ c. search needs)
+    (λ c. search needs)
+    (λ c κs. search needs)
+    (λ c. rw (sym (c .before .before .before .two .ensures) ∙ c .before .o .given .1))
+    (λ c. rw (c .none .ensures, sym (c .before .before .before .two .ensures) ∙ c .before .enum-told .given .1)))
