@@ -123,10 +123,12 @@ static void fresh(void)
 
 // ---- the check: every entry hears what plain C hears, and leaves the same state
 
+// Plain C has no window: no access here reaches it, so that it stays as the platform reset leaves it.
 static bool same_state(void)
 {
+    static const twin_registers untouched;
     return memcmp(lent.bytes, plain.bytes, sizeof plain.bytes) == 0 && memcmp(&lent.closed, plain.closed, sizeof plain.closed) == 0
-        && lent.busy == plain.busy;
+        && lent.busy == plain.busy && memcmp(&lent.window, &untouched, sizeof untouched) == 0;
 }
 
 // From a state that has seen writes; with `busy`, a function reset runs until the next access that starts one.

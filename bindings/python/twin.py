@@ -24,7 +24,7 @@ import enum
 import os
 import pathlib
 
-__all__ = ["Claim", "Closed", "Found", "Kind", "Range", "Refusal", "Refused", "State", "Twin", "Window", "probe", "walk"]
+__all__ = ["Claim", "Closed", "Found", "Kind", "Range", "Refusal", "Refused", "Register", "Registers", "State", "Twin", "Window", "probe", "walk"]
 
 
 class Refusal(enum.IntEnum):
@@ -40,6 +40,7 @@ class Refusal(enum.IntEnum):
     LINE = 9
     POINTER = 10
     ENDLESS = 11
+    WINDOW_OFFSET = 16
 
 
 class Refused(Exception):
@@ -56,6 +57,16 @@ class Window(enum.IntEnum):
     TRANSLATION = 1  # GTTMMADR
     APERTURE = 2     # GMADR
     IO = 3           # IOBAR
+
+
+class Register(enum.IntEnum):
+    """The registers in GTTMMADR's window by their offsets, as a claim of Window.TRANSLATION gives them. Any other dword of the window reads 0 and ignores writes."""
+    FAULT_REG = 0x04094
+    ASSRREQ = 0x0810C
+    MTOUUD = 0x108080
+    MTOUUD_HIGH = 0x108084
+    MBDSM = 0x1080C0
+    DRAM_CYCLES = 0x138078
 
 
 class Kind(enum.IntEnum):
@@ -75,17 +86,28 @@ class Closed(ctypes.Structure):
     _fields_ = [("svid2", ctypes.c_uint8), ("sid2", ctypes.c_uint8), ("swsci15", ctypes.c_uint8)]
 
 
+class Registers(ctypes.Structure):
+    """What the registers in GTTMMADR's window hold, in ascending order of their offsets. Any numbers are a state: a guest reads what is held, but ASSRREQ's bits 31:16 as 0."""
+    _fields_ = [(name, ctypes.c_uint32) for name in ("fault", "assrreq", "mtouud", "mtouud_high", "mbdsm", "cycles")]
+
+
 class State(ctypes.Structure):
-    """The record: 256 configuration bytes, the port latch, the write-once fields, and whether a function reset runs (busy: 0 no, any other number yes). Every pattern of bytes is a state."""
-    _fields_ = [("bytes", ctypes.c_uint8 * 256), ("latch", ctypes.c_uint32), ("closed", Closed), ("busy", ctypes.c_uint8)]
+    """The record: 256 configuration bytes, the port latch, the write-once fields, whether a function reset runs (busy: 0 no, any other number yes), and the window's registers. Every pattern of bytes is a state."""
+    _fields_ = [("bytes", ctypes.c_uint8 * 256), ("latch", ctypes.c_uint32), ("closed", Closed), ("busy", ctypes.c_uint8), ("window", Registers)]
 
 
-assert ctypes.sizeof(State) == 264 and ctypes.alignment(State) == 4
-assert (State.bytes.offset, State.latch.offset, State.closed.offset, State.busy.offset) == (0, 256, 260, 263)
-assert (Closed.svid2.offset, Closed.sid2.offset, Closed.swsci15.offset) == (0, 1, 2)
+def _places(structure):
+    return [getattr(structure, name).offset for name, _ in structure._fields_]
+
+
+assert ctypes.sizeof(State) == 288 and ctypes.alignment(State) == 4
+assert _places(State) == [0, 256, 260, 263, 264]
+assert _places(Closed) == [0, 1, 2]
+assert _places(Registers) == [0, 4, 8, 12, 16, 20]
 
 # The operations of the door.
-_PLATFORM_RESET, _WRITE, _READ, _HOST_UPDATE, _PORT_WRITE, _PORT_READ, _CLAIM_MEMORY, _CLAIM_PORT, _PROBE, _WALK, _END_SIGNAL = range(11)
+(_PLATFORM_RESET, _WRITE, _READ, _HOST_UPDATE, _PORT_WRITE, _PORT_READ, _CLAIM_MEMORY, _CLAIM_PORT, _PROBE, _WALK, _END_SIGNAL,
+ _WINDOW_WRITE, _WINDOW_READ, _COMPLETE, _FAULT, _ADD_CYCLES, _MIRROR_UPDATE) = range(17)
 
 
 def _library():
@@ -144,11 +166,11 @@ def _found(result):
 class Twin:
     """The function, fresh, or over a record of any making. `state` is the record itself.
 
-    A write of 1 to AFCTL bit 0 starts a function reset, and end_signal() or a platform reset ends it. Between the two the function is busy: guest reads give ones, guest writes are accepted and dropped, both through the port pair too, and nothing is claimed. Host updates and the port latch work, and refusals are the same.
+    A write of 1 to AFCTL bit 0 starts a function reset, and end_signal() or a platform reset ends it. Between the two the function is busy: guest reads give ones, guest writes are accepted and dropped, both through the port pair and in the window too, and nothing is claimed. All that the host does and the port latch work, and refusals are the same. A function reset leaves what the window holds.
     """
 
     def __init__(self, record=None):
-        """Without a record, the fresh state. A record is 264 bytes, which are copied; in one that was stored by a program without a busy byte the last is undefined, and has to be set to 0."""
+        """Without a record, the fresh state. A record is 288 bytes, which are copied. In one that was stored by a program without a busy byte, byte 263 is undefined, and has to be set to 0; one that was stored by a program without a window is 24 bytes shorter, and has to be followed by as many of 0."""
         self.state = State()
         if record is None:
             self.platform_reset()
@@ -158,14 +180,14 @@ class Twin:
             ctypes.memmove(ctypes.byref(self.state), bytes(record), ctypes.sizeof(State))
 
     def record(self):
-        """A copy of the record's 264 bytes."""
+        """A copy of the record's 288 bytes."""
         return bytes(self.state)
 
     def _do(self, op, a=0, b=0, c=0):
         return _lib.twin_do(ctypes.byref(self.state), op, a, b, c)
 
     def platform_reset(self):
-        """Returns everything to the fresh state: defaults, fields open, latch 0, not busy."""
+        """Returns everything to the fresh state: defaults, fields open, latch 0, not busy, the window 0."""
         _lib.twin_platform_reset(ctypes.byref(self.state))
 
     def write(self, offset, lanes, value):
@@ -223,6 +245,39 @@ class Twin:
         """A capability walk over the function's own bytes as a guest reads them, FF all of them while busy; refusals 10 and 11, with their count."""
         _fits(8, wanted)
         return _found(self._do(_WALK, wanted))
+
+    def window_write(self, offset, lanes, value):
+        """A guest write of the lanes' bytes at an offset inside GTTMMADR's window, dropped while busy; refusals 16 and 6.
+
+        In ASSRREQ each of bits 3:0 is set where the value has it and the bit 16 higher, and lanes 0 and 2 are both enabled. FAULT_REG becomes 0 where lane 0 is enabled and the value's bit 0 is 0. A guest changes nothing else in the window.
+        """
+        _fits(32, offset, lanes, value)
+        _value(self._do(_WINDOW_WRITE, offset, lanes, value))
+
+    def window_read(self, offset, lanes):
+        """A guest read at an offset inside GTTMMADR's window, of ones while busy and in the lanes that aren't enabled; refusals 16 and 6."""
+        _fits(32, offset, lanes)
+        return _value(self._do(_WINDOW_READ, offset, lanes))
+
+    def complete(self, mask):
+        """The host completes requests: ASSRREQ's masked bits become 0; refusal 7 for a mask with a bit outside Fh."""
+        _fits(32, mask)
+        _value(self._do(_COMPLETE, mask))
+
+    def fault(self, word):
+        """The host gives a fault: FAULT_REG holds its word with bit 0, valid, set; but where valid is set already the fault is lost, though accepted. Refusal 7 for a word with a bit outside 77FEh."""
+        _fits(32, word)
+        _value(self._do(_FAULT, word))
+
+    def add_cycles(self, count):
+        """The host adds to the sum of DRAM cycles, which wraps past 32 bits."""
+        _fits(32, count)
+        _value(self._do(_ADD_CYCLES, count))
+
+    def mirror_update(self, offset, mask, value):
+        """A host update of the masked bits of a mirror; refusal 16, and 7 for a mask with a bit outside the mirror's: FFF00001h for MTOUUD and MBDSM, 7Fh for MTOUUD_HIGH, 0 for every other dword of the window."""
+        _fits(32, offset, mask, value)
+        _value(self._do(_MIRROR_UPDATE, offset, mask, value))
 
 
 def probe(low, high):

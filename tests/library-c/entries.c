@@ -390,7 +390,7 @@ static void ends(void)
         CHECK(same(&s, &door), 1);
         twin_state before = used();
         for (uint32_t offset = 0, row = 0; offset < 256; offset += 4) {
-            int listed = row < sizeof rows / sizeof *rows && rows[row].offset == offset;
+            bool listed = row < sizeof rows / sizeof *rows && rows[row].offset == offset;
             CHECK(read_dword(&before, offset), listed ? rows[row].before : 0);
             CHECK(read_dword(&s, offset), listed ? rows[row].after : 0);
             row += listed;

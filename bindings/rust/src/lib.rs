@@ -370,14 +370,14 @@ impl Twin {
     /// assert_eq!(t.host_update(0x00, 0x01, 0x01), Err(Refusal::NotHost));
     /// ```
     pub fn host_update(&mut self, offset: u32, mask: u8, value: u8) -> Result<(), Refusal> {
-        accepted(self.perform(HOST_UPDATE, offset, mask.into(), value.into()) >> 48)
+        self.done(HOST_UPDATE, offset, mask.into(), value.into())
     }
 
     /// A write of `width` bytes to a port; refusals 2, 3 and 4. 4 bytes at
     /// CF8h store the latch, data goes to the dword that it names, and is
     /// dropped while busy.
     pub fn port_write(&mut self, port: u16, width: u32, value: u32) -> Result<(), Refusal> {
-        accepted(self.perform(PORT_WRITE, port.into(), width, value) >> 48)
+        self.done(PORT_WRITE, port.into(), width, value)
     }
 
     /// A read of `width` bytes from a port, 0 above the width, data of ones
@@ -458,7 +458,7 @@ impl Twin {
     /// # Ok::<(), Refusal>(())
     /// ```
     pub fn window_write(&mut self, offset: u32, lanes: u32, value: u32) -> Result<(), Refusal> {
-        accepted(self.perform(WINDOW_WRITE, offset, lanes, value) >> 48)
+        self.done(WINDOW_WRITE, offset, lanes, value)
     }
 
     /// A guest read at an offset inside GTTMMADR's window, of ones while busy
@@ -470,7 +470,7 @@ impl Twin {
     /// The host completes requests: ASSRREQ's masked bits become 0; refusal 7
     /// for a mask with a bit outside Fh.
     pub fn complete(&mut self, mask: u32) -> Result<(), Refusal> {
-        accepted(self.perform(COMPLETE, mask, 0, 0) >> 48)
+        self.done(COMPLETE, mask, 0, 0)
     }
 
     /// The host gives a fault: FAULT_REG holds its word with bit 0, valid,
@@ -488,7 +488,7 @@ impl Twin {
     /// # Ok::<(), twin::Refusal>(())
     /// ```
     pub fn fault(&mut self, word: u32) -> Result<(), Refusal> {
-        accepted(self.perform(FAULT, word, 0, 0) >> 48)
+        self.done(FAULT, word, 0, 0)
     }
 
     /// The host adds to the sum of DRAM cycles, which wraps past 32 bits.
@@ -510,13 +510,18 @@ impl Twin {
     /// # Ok::<(), Refusal>(())
     /// ```
     pub fn mirror_update(&mut self, offset: u32, mask: u32, value: u32) -> Result<(), Refusal> {
-        accepted(self.perform(MIRROR_UPDATE, offset, mask, value) >> 48)
+        self.done(MIRROR_UPDATE, offset, mask, value)
     }
 
     /// The door.
     fn perform(&mut self, op: u32, a: u32, b: u32, c: u32) -> u64 {
         // SAFETY: the record is whole, aligned, and lent to this call alone.
         unsafe { raw::twin_do(self, op, a, b, c) }
+    }
+
+    /// The door for an operation that tells a refusal's number alone.
+    fn done(&mut self, op: u32, a: u32, b: u32, c: u32) -> Result<(), Refusal> {
+        accepted(self.perform(op, a, b, c) >> 48)
     }
 
     /// The door for an operation that only looks: over a copy, since the door

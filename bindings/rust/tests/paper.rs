@@ -2,7 +2,8 @@
 
 use std::mem::{align_of, size_of};
 
-use twin::{probe, raw, walk, Claim, Kind, Range, Refusal, Twin, Walk};
+use twin::register::{ASSRREQ, DRAM_CYCLES, FAULT_REG, MBDSM, MTOUUD, MTOUUD_HIGH};
+use twin::{probe, raw, walk, Claim, Kind, Range, Refusal, Registers, Twin, Walk};
 
 /// A fresh twin after some writes, all of them accepted.
 fn after(writes: &[(u32, u32, u32)]) -> Twin {
@@ -13,14 +14,17 @@ fn after(writes: &[(u32, u32, u32)]) -> Twin {
     t
 }
 
+/// Bytes of a record.
+const SIZE: usize = 288;
+
 /// All bytes of a record.
 #[repr(C, align(4))]
 #[derive(Clone, Copy, PartialEq, Eq, Debug)]
-struct Lent([u8; 264]);
+struct Lent([u8; SIZE]);
 
 impl Lent {
     fn record(&mut self) -> *mut Twin {
-        assert_eq!((size_of::<Lent>(), align_of::<Lent>()), (264, 4));
+        assert_eq!((size_of::<Lent>(), align_of::<Lent>()), (SIZE, 4));
         (self as *mut Lent).cast()
     }
 }
@@ -29,17 +33,24 @@ impl Lent {
 fn places() {
     let t = Twin::fresh();
     let from = |field: *const u8| field as usize - &t as *const Twin as usize;
+    let dword_from = |field: *const u32| from(field.cast());
     assert_eq!(from(t.bytes.as_ptr()), 0);
-    assert_eq!(from(&t.latch as *const u32 as *const u8), 256);
+    assert_eq!(dword_from(&t.latch), 256);
     assert_eq!(from(&t.closed.svid2), 260);
     assert_eq!(from(&t.closed.sid2), 261);
     assert_eq!(from(&t.closed.swsci15), 262);
     assert_eq!(from(&t.busy), 263);
+    assert_eq!(dword_from(&t.window.fault), 264);
+    assert_eq!(dword_from(&t.window.assrreq), 268);
+    assert_eq!(dword_from(&t.window.mtouud), 272);
+    assert_eq!(dword_from(&t.window.mtouud_high), 276);
+    assert_eq!(dword_from(&t.window.mbdsm), 280);
+    assert_eq!(dword_from(&t.window.cycles), 284);
 }
 
 #[test]
 fn layout() {
-    let mut lent = Lent([0xA5; 264]);
+    let mut lent = Lent([0xA5; SIZE]);
     let t = lent.record();
     // SAFETY: a whole record, aligned, used here alone.
     unsafe {
@@ -47,6 +58,12 @@ fn layout() {
         raw::twin_do(t, 4, 0xCF8, 4, 0x80FEDCB8); // the latch
         raw::twin_write(t, 0x2C, 0x8, 0xAB000000); // SID2
         raw::twin_write(t, 0xFC, 0xF, 0x44332211); // ASLS
+        raw::twin_do(t, 11, 0x0810C, 0xF, 0x00060006); // ASSRREQ
+        raw::twin_do(t, 14, 0x1152, 0, 0); // FAULT_REG
+        raw::twin_do(t, 15, 0xF0E0D0C0, 0, 0); // the sum
+        raw::twin_do(t, 16, 0x108080, 0xFFF00001, 0x45600001); // MTOUUD
+        raw::twin_do(t, 16, 0x108084, 0x7F, 0x71); // its high dword
+        raw::twin_do(t, 16, 0x1080C0, 0xFFF00001, 0x9AB00000); // MBDSM
         raw::twin_write(t, 0xA8, 0x1, 0x00000001); // AFCTL
     }
     assert_eq!(lent.0[0x00..0x04], [0x86, 0x80, 0x52, 0x01]);
@@ -54,6 +71,12 @@ fn layout() {
     assert_eq!(lent.0[0xFC..0x100], [0x11, 0x22, 0x33, 0x44]);
     assert_eq!(lent.0[256..260], [0xB8, 0xDC, 0xFE, 0x80]);
     assert_eq!(lent.0[260..264], [0, 1, 0, 1]);
+    assert_eq!(lent.0[264..268], [0x53, 0x11, 0, 0]);
+    assert_eq!(lent.0[268..272], [0x06, 0, 0, 0]);
+    assert_eq!(lent.0[272..276], [0x01, 0, 0x60, 0x45]);
+    assert_eq!(lent.0[276..280], [0x71, 0, 0, 0]);
+    assert_eq!(lent.0[280..284], [0, 0, 0xB0, 0x9A]);
+    assert_eq!(lent.0[284..288], [0xC0, 0xD0, 0xE0, 0xF0]);
 }
 
 #[test]
@@ -244,6 +267,7 @@ fn walks() {
 /// A twin with windows, a closed field and a function reset that runs, with a
 /// busy byte that a start leaves and with foreign ones.
 fn busy_ones() -> [Twin; 3] {
+    let window = FOREIGN;
     let t = after(&[
         (0x04, 0x1, 0x07),
         (0x10, 0xF, 0x00400000),
@@ -253,7 +277,7 @@ fn busy_ones() -> [Twin; 3] {
         (0xA8, 0x1, 0x01),
     ]);
     assert_eq!((t.busy, t.is_busy()), (1, true));
-    [t, Twin { busy: 7, ..t }, Twin { busy: 0xFF, ..t }]
+    [1, 7, 0xFF].map(|busy| Twin { busy, window, ..t })
 }
 
 #[test]
@@ -336,6 +360,193 @@ fn a_busy_function_claims_nothing_and_hears_its_host() {
     }
 }
 
+/// A window of foreign making.
+const FOREIGN: Registers = Registers {
+    fault: 0x5A00_1153,
+    assrreq: 0x1234_567A,
+    mtouud: 0x4560_0A01,
+    mtouud_high: 0x0000_03F1,
+    mbdsm: 0x9AB0_0001,
+    cycles: 0xFFFF_FFFE,
+};
+
+/// What a guest reads of it.
+const SHOWN: [(u32, u32); 6] = [
+    (FAULT_REG, 0x5A00_1153),
+    (ASSRREQ, 0x0000_567A),
+    (MTOUUD, 0x4560_0A01),
+    (MTOUUD_HIGH, 0x0000_03F1),
+    (MBDSM, 0x9AB0_0001),
+    (DRAM_CYCLES, 0xFFFF_FFFE),
+];
+
+#[test]
+fn window_reads() {
+    let idle = Twin {
+        window: FOREIGN,
+        ..Twin::fresh()
+    };
+    let others = [0, 0x04090, 0x08110, 0x10810C, 0x308080, 0x3FFFFC].map(|offset| (offset, 0));
+    for (offset, dword) in SHOWN.into_iter().chain(others) {
+        for lanes in 0..16 {
+            let wanted = in_lanes(dword, lanes);
+            assert_eq!(idle.window_read(offset, lanes), Ok(wanted), "{offset:X}");
+            for busy in busy_ones() {
+                assert_eq!(busy.window_read(offset, lanes), Ok(0xFFFFFFFF));
+            }
+        }
+    }
+    for t in busy_ones().into_iter().chain([idle]) {
+        for offset in [0x0810D, 0x0810E, 0x3FFFFF, 0x400000, 0x8000810C] {
+            assert_eq!(t.window_read(offset, 0x10), Err(Refusal::WindowOffset));
+        }
+        assert_eq!(t.window_read(ASSRREQ, 0x10), Err(Refusal::Lanes));
+    }
+}
+
+#[test]
+fn requests_and_completions() {
+    let mut t = Twin::fresh();
+    for (lanes, value, held) in [
+        (0xF, 0x0000000F, 0x0),
+        (0xF, 0x000F0000, 0x0),
+        (0xB, 0xFFFFFFFF, 0x0),
+        (0xE, 0xFFFFFFFF, 0x0),
+        (0x5, 0x00020002, 0x2),
+        (0xF, 0x000A000C, 0xA),
+        (0xF, 0x000F0000, 0xA),
+        (0xF, 0xFFFFFFFF, 0xF),
+    ] {
+        assert_eq!(t.window_write(ASSRREQ, lanes, value), Ok(()));
+        assert_eq!(t.window_read(ASSRREQ, 0xF), Ok(held), "{value:08X}");
+    }
+    assert_eq!(t.complete(0x10), Err(Refusal::NotHost));
+    assert_eq!(t.complete(0x6), Ok(()));
+    assert_eq!(t.window.assrreq, 0x9);
+    t.window.assrreq = u32::MAX; // of foreign making
+    assert_eq!(t.complete(0xF), Ok(()));
+    assert_eq!(t.window.assrreq, 0xFFFFFFF0);
+}
+
+#[test]
+fn faults() {
+    let mut t = Twin::fresh();
+    for word in [0x0001, 0x0800, 0x8000, 0x1_0000, u32::MAX] {
+        assert_eq!(t.fault(word), Err(Refusal::NotHost));
+    }
+    assert_eq!(t, Twin::fresh());
+    assert_eq!(t.fault(0x1152), Ok(()));
+    assert_eq!(t.fault(0x77FE), Ok(())); // lost
+    for (lanes, value) in [(0xF, 1), (0xE, 0), (0x0, 0), (0x1, u32::MAX)] {
+        assert_eq!(t.window_write(FAULT_REG, lanes, value), Ok(()));
+        assert_eq!(t.window.fault, 0x1153);
+    }
+    assert_eq!(t.window_write(FAULT_REG, 0x1, 0xFFFFFFFE), Ok(()));
+    assert_eq!(t.window.fault, 0);
+    assert_eq!(t.fault(0), Ok(()));
+    assert_eq!(t.window.fault, 1);
+}
+
+#[test]
+fn the_sum_wraps() {
+    let mut t = Twin::fresh();
+    for (count, sum) in [(0xFFFFFFFE, 0xFFFFFFFE), (1, 0xFFFFFFFF), (3, 2), (0, 2)] {
+        t.add_cycles(count);
+        assert_eq!(t.window_read(DRAM_CYCLES, 0xF), Ok(sum));
+        assert_eq!(t.window_write(DRAM_CYCLES, 0xF, 0), Ok(()));
+    }
+    assert_eq!(t.window.cycles, 2);
+}
+
+#[test]
+fn mirrors() {
+    let mut t = Twin::fresh();
+    for (offset, mask) in [
+        (MTOUUD, 0xFFF00001),
+        (MTOUUD_HIGH, 0x0000007F),
+        (MBDSM, 0xFFF00001),
+        (FAULT_REG, 0),
+        (ASSRREQ, 0),
+        (DRAM_CYCLES, 0),
+        (0x000000, 0),
+        (0x3FFFFC, 0),
+    ] {
+        for place in 0..32 {
+            let bit = 1 << place;
+            let wanted = match mask & bit {
+                0 => Err(Refusal::NotHost),
+                _ => Ok(()),
+            };
+            assert_eq!(t.mirror_update(offset, bit, u32::MAX), wanted);
+        }
+        assert_eq!(t.mirror_update(offset, 0, u32::MAX), Ok(()));
+        assert_eq!(t.window_write(offset, 0xF, 0), Ok(()));
+        assert_eq!(t.window_read(offset, 0xF), Ok(mask));
+        assert_eq!(t.mirror_update(offset, mask, 0x45600001), Ok(()));
+        assert_eq!(t.window_read(offset, 0xF), Ok(mask & 0x45600001));
+    }
+    for offset in [0x1080C1, 0x1080C2, 0x3FFFFF, 0x400000, 0x5080C0] {
+        assert_eq!(
+            t.mirror_update(offset, u32::MAX, 0),
+            Err(Refusal::WindowOffset)
+        );
+    }
+}
+
+#[test]
+fn from_a_claimed_address_to_a_register() {
+    let base = 0x12_0040_0000;
+    let mut t = after(&[
+        (0x04, 0x1, 0x02),
+        (0x10, 0xF, 0x00400000),
+        (0x14, 0xF, 0x12),
+    ]);
+    t.window = FOREIGN;
+    for (register, shown) in SHOWN {
+        let claim = t.claim_memory(base + u64::from(register));
+        assert_eq!(claim, Some(Claim::Translation(register)));
+        assert_eq!(t.window_read(register, 0xF), Ok(shown));
+    }
+}
+
+#[test]
+fn a_busy_function_keeps_its_window_and_hears_its_host() {
+    for mut t in busy_ones() {
+        let before = t;
+        for (offset, _) in SHOWN {
+            for value in [0, u32::MAX] {
+                assert_eq!(t.window_write(offset, 0xF, value), Ok(()));
+            }
+        }
+        assert_eq!(t.window_write(0x0810D, 0xF, 0), Err(Refusal::WindowOffset));
+        assert_eq!(t, before);
+
+        t.window.fault = 0;
+        assert_eq!(t.fault(0x4008), Ok(()));
+        assert_eq!(t.complete(0x2), Ok(()));
+        t.add_cycles(3);
+        assert_eq!(t.mirror_update(MBDSM, 0xFFF00001, 0x12300000), Ok(()));
+        let held = Registers {
+            fault: 0x4009,
+            assrreq: 0x1234_5678,
+            mbdsm: 0x1230_0000,
+            cycles: 1,
+            ..FOREIGN
+        };
+        assert_eq!(
+            t,
+            Twin {
+                window: held,
+                ..before
+            }
+        );
+        t.end_signal();
+        assert_eq!(t.window, held);
+        t.platform_reset();
+        assert_eq!(t.window, Registers::default());
+    }
+}
+
 #[test]
 fn refusals_leave_every_byte() {
     let rows = [
@@ -357,12 +568,22 @@ fn refusals_leave_every_byte() {
         (7, 0x10000, 0, 0, 9),
         (8, 2, 0, 0, 8),
         (9, 0x100, 0, 0, 9),
-        (11, 0, 0, 0, 9),
+        (11, 0x400000, 0x10, 0, 16),
+        (11, 0x0810D, 0xF, 0, 16),
+        (11, 0x0810C, 0x10, 0, 6),
+        (12, 0x04096, 0x0, 0, 16),
+        (12, 0x04094, 0x10, 0, 6),
+        (13, 0x10, 0, 0, 7),
+        (14, 0x1, 0, 0, 7),
+        (16, 0x400000, 0, 0, 16),
+        (16, 0x1080C2, 0x2, 0, 16),
+        (16, 0x1080C0, 0x2, 0, 7),
+        (17, 0, 0, 0, 9),
         (0x10A, 0, 0, 0, 9),
         (u32::MAX, 0, 0, 0, 9),
     ];
     for busy in [0, 1, 0x5A] {
-        let mut lent = Lent([0x5A; 264]); // a record of foreign making
+        let mut lent = Lent([0x5A; SIZE]); // a record of foreign making
         lent.0[263] = busy;
         let before = lent;
         for (op, a, b, c, number) in rows {
@@ -393,11 +614,16 @@ fn refusals_leave_every_byte() {
 
 #[test]
 fn refusal_numbers() {
-    assert_eq!(Refusal::of(0), None);
-    assert_eq!(Refusal::of(12), None);
-    for (number, refusal) in (1..).zip(Refusal::ALL) {
+    for number in [0, 12, 15, 17] {
+        assert_eq!(Refusal::of(number), None);
+    }
+    for (number, refusal) in (1..=11).chain([16]).zip(Refusal::ALL) {
         assert_eq!(refusal.number(), number);
         assert_eq!(Refusal::of(number), Some(refusal));
     }
     assert_eq!(Refusal::NotOurs.to_string(), "refusal 3, NOT OURS");
+    assert_eq!(
+        Refusal::WindowOffset.to_string(),
+        "refusal 16, WINDOW OFFSET"
+    );
 }

@@ -20,7 +20,7 @@ use Rattle.calls.specs.declared.Pair.{Pair}
 use Rattle.calls.specs.declared.Pair.the-variants as P
 use Rattle.calls.specs.declared.Triple.{Triple}
 use Rattle.calls.specs.declared.Triple.the-variants as T
-use Rattle.calls.specs.Call.{hexFrom, fieldOf, paired, tripled, oneOf, twoOf, threeOf}
+use Rattle.calls.specs.Call.{fieldOf, paired, tripled, oneOf, twoOf, threeOf}
 use Rattle.calls.proofs.Digits.{within, number-exactly, not-bad}
 
 -- ---- one field
@@ -35,7 +35,7 @@ from-split (suc a) n f i =
 field-says : (l : List ℕ) (i k v : ℕ) → fieldOf l i k ≡ H.Value v → (at l i ≡ letter " ") × ((v < 16 ^ k) × (hexOf k v ≡ from k (at l) (i + 1)))
 unfolding fieldOf
 field-says l i k v =
-    picked-is (λ (h : Hex). h ≡ H.Value v → (at l i ≡ letter " ") × ((v < 16 ^ k) × (hexOf k v ≡ from k (at l) (i + 1)))) (at l i) (letter " ") (hexFrom k l (i + 1) 0) H.Bad
+    picked-is (λ (h : Hex). h ≡ H.Value v → (at l i ≡ letter " ") × ((v < 16 ^ k) × (hexOf k v ≡ from k (at l) (i + 1)))) (at l i) _ _ _
     (λ s e. (s, number-exactly l (i + 1) k v .0 e))
     (λ e. absurd (not-bad v e))
 

@@ -9,6 +9,7 @@ use Rattle.rules.specs.Guest.{writeOf}
 use Rattle.rules.specs.Read.{readOf, imageOf}
 use Rattle.rules.specs.Reset.{endOf}
 use Rattle.rules.specs.Host.{hostOf}
+use Rattle.rules.specs.Window.{windowReadOf, windowWriteOf, completeOf, faultOf, cyclesOf, mirrorUpdateOf}
 use Rattle.rules.specs.Ports.{portReadOf, portWriteOf}
 use Rattle.rules.specs.Claims.{memoryClaimOf, ioClaimOf}
 use Rattle.probe.specs.Probe.{probeOf}
@@ -42,7 +43,18 @@ portDeed s a = upTo 65535 a s (leaves (claimReply (ioClaimOf s a)) s)
 unfoldable pub walkDeed : State → ℕ → Outcome
 walkDeed s a = upTo 255 a s (leaves (walkReply (walkOf (imageOf s) a)) s)
 
--- an operation's number and three arguments; those that it has no use for have no say. 0 is a platform reset, 1 a guest write, 2 a guest read, 3 a host update, 4 a port write, 5 a port read, 6 and 7 the claim of a memory address and of a port, 8 a size probe, 9 a capability walk, 10 the end signal
+-- the window's operations: 11 is a guest write, 12 a guest read, and of the host 13 completes requests, 14 gives a fault word, 15 adds cycles, 16 updates a mirror; any other number is a line of no form
+unfoldable pub windowDoorOf : State → ℕ → ℕ → ℕ → ℕ → Outcome
+windowDoorOf s op a b c =
+    if op is 11 then windowWriteOf s a b c
+    else if op is 12 then leaves (windowReadOf s a b) s
+    else if op is 13 then completeOf s a
+    else if op is 14 then faultOf s a
+    else if op is 15 then done (cyclesOf s a)
+    else if op is 16 then mirrorUpdateOf s a b c
+    else refused LINE s
+
+-- an operation's number and three arguments; those that it has no use for have no say. 0 is a platform reset, 1 a guest write, 2 a guest read, 3 a host update, 4 a port write, 5 a port read, 6 and 7 the claim of a memory address and of a port, 8 a size probe, 9 a capability walk, 10 the end signal; from 11 on they are the window's
 unfoldable pub doorOf : State → ℕ → ℕ → ℕ → ℕ → Outcome
 doorOf s op a b c =
     if op is 0 then done freshOf
@@ -56,7 +68,7 @@ doorOf s op a b c =
     else if op is 8 then leaves (probeReply (probeOf a b)) s
     else if op is 9 then walkDeed s a
     else if op is 10 then done (endOf s)
-    else refused LINE s
+    else windowDoorOf s op a b c
 
 -- ---- what the code's record says
 

@@ -3,16 +3,18 @@ ghost use mathlib.Core.Path.{_≡_};
 ghost use Rattle.answer.specs.Refusals.{no, LINE};
 ghost use Rattle.map.specs.Map.{guests};
 ghost use Rattle.rules.specs.Access.{done, refused};
-ghost use Rattle.rules.specs.Answers.{writeSays};
+ghost use Rattle.rules.specs.Answers.{writeSays, reached};
 ghost use Rattle.rules.specs.Fresh.{freshOf};
 ghost use Rattle.rules.specs.Guest.{writeOf};
 ghost use Rattle.rules.specs.Read.{readOf};
 ghost use Rattle.rules.specs.Reset.{endOf};
+ghost use Rattle.rules.specs.Window.{windowReadOf, cyclesOf};
 ghost use Rattle.probe.specs.Probe.{probeOf};
 ghost use Rattle.writes.specs.Bytes.{lent, writeLanes};
 ghost use Rattle.tells.specs.Told.{heard, leaves, probeReply};
-ghost use Rattle.deeds.specs.Door.{did, hostDeed, portWriteDeed, portReadDeed, memoryDeed, portDeed, walkDeed, doorOf};
+ghost use Rattle.deeds.specs.Door.{did, hostDeed, portWriteDeed, portReadDeed, memoryDeed, portDeed, walkDeed, windowDoorOf, doorOf};
 use rules::Flags;
+use rules::Reached;
 use rules::State;
 use rules::WriteAnswer;
 use tells::Told;
@@ -163,7 +165,53 @@ fn do_end(s: State) -> Deed
     }
 }
 
-// The operation of that number, as specs/Door.antt names them; any other number is a line of no form.
+// ---- the window's
+
+fn reach(r: Reached) -> Deed
+    ensures { λ d. ⌜ did d ≡ reached r ⌝ }
+{
+    let x = r.answer;
+    let t = r.state;
+    Deed {
+        told: tells::window_told(x),
+        state: t,
+    }
+}
+
+fn do_window_read(s: State, a: u32, b: u32) -> Deed
+    ensures { λ r. ⌜ did r ≡ leaves (windowReadOf s a b) s ⌝ }
+{
+    Deed {
+        told: tells::window_read_told(window::read(s, a, b)),
+        state: s,
+    }
+}
+
+fn do_cycles(s: State, a: u32) -> Deed
+    ensures { λ r. ⌜ did r ≡ done (cyclesOf s a) ⌝ }
+{
+    Deed {
+        told: tells::ok(0, 0),
+        state: window::add_cycles(s, a),
+    }
+}
+
+// The operation of that number; any other number is a line of no form.
+fn perform_window(s: State, op: u32, a: u32, b: u32, c: u32) -> Deed
+    ensures { λ r. ⌜ did r ≡ windowDoorOf s op a b c ⌝ }
+{
+    match op {
+        11 => reach(window::write(s, a, b, c)),
+        12 => do_window_read(s, a, b),
+        13 => reach(window::complete(s, a)),
+        14 => reach(window::fault(s, a)),
+        15 => do_cycles(s, a),
+        16 => reach(window::mirror_update(s, a, b, c)),
+        _ => bad(s),
+    }
+}
+
+// The operation of that number, as specs/Door.antt names them.
 fn perform(s: State, op: u32, a: u32, b: u32, c: u32) -> Deed
     ensures { λ r. ⌜ did r ≡ doorOf s op a b c ⌝ }
 {
@@ -179,7 +227,7 @@ fn perform(s: State, op: u32, a: u32, b: u32, c: u32) -> Deed
         8 => do_probe(s, a, b),
         9 => do_walk(s, a),
         10 => do_end(s),
-        _ => bad(s),
+        _ => perform_window(s, op, a, b, c),
     }
 }
 

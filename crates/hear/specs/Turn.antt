@@ -1,4 +1,4 @@
--- One turn of a program that hears console lines: the console is the machine, and 20 bytes of an unfinished line are kept.
+-- One turn of a program that hears console lines: the console is the machine, and 27 bytes of an unfinished line are kept.
 use mathlib.Core.Bool.{Bool}
 use mathlib.Core.List.{List}
 use Prim.Native.Nat.{ℕ}
@@ -7,4 +7,4 @@ use Rattle.play.specs.Turn as T
 use Rattle.talk.specs.Console.{lineNext, lineSay}
 
 abbrev pub Turned : Bool → State → List ℕ → State → List ℕ → List ℕ → Type 0
-Turned on s k after text kept = T.Turned lineNext lineSay 20 on s k after text kept
+Turned on s k after text kept = T.Turned lineNext lineSay 27 on s k after text kept

@@ -14,23 +14,23 @@ pub struct Heard {
 }
 
 // What is kept of a line, and a block.
-pub fn in_buffer() -> [u8; 4116]
-    ensures { λ r. ⌜ 4116 ≡ length r ⌝ }
+pub fn in_buffer() -> [u8; 4123]
+    ensures { λ r. ⌜ 4123 ≡ length r ⌝ }
 {
-    [0; 4116]
+    [0; 4123]
 }
 
 // An answer is at most 24 bytes, and a line at least one.
-pub fn out_buffer() -> [u8; 98784]
-    ensures { λ r. ⌜ 98784 ≡ length r ⌝ }
+pub fn out_buffer() -> [u8; 98952]
+    ensures { λ r. ⌜ 98952 ≡ length r ⌝ }
 {
-    [0; 98784]
+    [0; 98952]
 }
 
 // The last line may lack its LF.
 fn last(s: State, buf: &[u8], k: usize, out: &mut [u8]) -> Heard
-    requires { ⌜ (k ≤ length (now buf)) × (length (now out) ≡ 98784) ⌝ }
-    ensures { λ r. ⌜ (r .kept ≤ 20) × (r .filled ≤ 98784) × (length (now (out .exit)) ≡ 98784) ⌝ }
+    requires { ⌜ (k ≤ length (now buf)) × (length (now out) ≡ 98952) ⌝ }
+    ensures { λ r. ⌜ (r .kept ≤ 27) × (r .filled ≤ 98952) × (length (now (out .exit)) ≡ 98952) ⌝ }
     ensures { λ r. ⌜ Turned (r .on) s (take k (now (buf .entry))) (r .state) (take (r .filled) (now (out .exit))) (take (r .kept) (now (buf .entry))) ⌝ }
 {
     if k == 0 {
@@ -54,8 +54,8 @@ fn last(s: State, buf: &[u8], k: usize, out: &mut [u8]) -> Heard
 
 // Reads once, answers each line that is complete, and keeps the unfinished one.
 pub fn turn(s: State, buf: &mut [u8], k: usize, out: &mut [u8]) -> Heard
-    requires { ⌜ (k ≤ 20) × (length (now buf) ≡ 4116) × (length (now out) ≡ 98784) ⌝ }
-    ensures { λ r. ⌜ (r .kept ≤ 20) × (r .filled ≤ 98784) × (length (now (buf .exit)) ≡ 4116) × (length (now (out .exit)) ≡ 98784) ⌝ }
+    requires { ⌜ (k ≤ 27) × (length (now buf) ≡ 4123) × (length (now out) ≡ 98952) ⌝ }
+    ensures { λ r. ⌜ (r .kept ≤ 27) × (r .filled ≤ 98952) × (length (now (buf .exit)) ≡ 4123) × (length (now (out .exit)) ≡ 98952) ⌝ }
     ensures { λ r. ⌜ Turned (r .on) s (take k (now (buf .entry))) (r .state) (take (r .filled) (now (out .exit))) (take (r .kept) (now (buf .exit))) ⌝ }
 {
     let n = input::fill(buf, k);

@@ -2,7 +2,7 @@
 use mathlib.Core.Path.{_≡_, refl}
 use Prim.Native.Nat.{ℕ}
 use Rattle.bits.specs.Choice.{if_then_else_, _is_}
-use Rattle.answer.specs.Refusals.{Reply, WIDTH, NOT-OURS, OFFSET}
+use Rattle.answer.specs.Refusals.{Reply, WIDTH, NOT-OURS, OFFSET, LANES, WINDOW-OFFSET}
 use Rattle.answer.proofs.Agree.{one-answer}
 use Rattle.rules.specs.declared.State.{State}
 use Rattle.rules.specs.declared.ReadAnswer.{ReadAnswer}
@@ -18,6 +18,11 @@ use Rattle.rules.specs.declared.PortReadAnswer.the-variants as PR
 use Rattle.rules.specs.declared.PortWriteAnswer.{PortWriteAnswer}
 use Rattle.rules.specs.declared.PortWriteAnswer.the-variants as PW
 use Rattle.rules.specs.declared.PortWritten.{PortWritten}
+use Rattle.rules.specs.declared.WindowReadAnswer.{WindowReadAnswer}
+use Rattle.rules.specs.declared.WindowReadAnswer.the-variants as WR
+use Rattle.rules.specs.declared.WindowAnswer.{WindowAnswer}
+use Rattle.rules.specs.declared.WindowAnswer.the-variants as WA
+use Rattle.rules.specs.declared.Reached.{Reached}
 use Rattle.rules.specs.declared.Claim.{Claim}
 use Rattle.rules.specs.declared.Claim.the-variants as C
 use Rattle.rules.specs.Access.{Outcome}
@@ -25,8 +30,9 @@ use Rattle.rules.specs.Guest.{writeOf}
 use Rattle.rules.specs.Read.{readOf}
 use Rattle.rules.specs.Host.{hostOf}
 use Rattle.rules.specs.Ports.{portReadOf, portWriteOf}
+use Rattle.rules.specs.Window.{windowReadOf}
 use Rattle.rules.specs.Claims.{Claimed, unclaimed, claimed, translation, aperture, io, memoryClaimOf, ioClaimOf}
-use Rattle.rules.specs.Answers.{readSays, writeSays, hostSays, portReadSays, portWriteSays, claimSays, wrote, updated, portWrote}
+use Rattle.rules.specs.Answers.{readSays, writeSays, hostSays, portReadSays, portWriteSays, windowReadSays, windowSays, claimSays, wrote, updated, portWrote, reached}
 
 -- ---- what is said is heard again
 
@@ -80,6 +86,27 @@ port-write-heard PW.Width = refl
 port-write-heard PW.NotOurs = refl
 port-write-heard PW.OtherFunction = refl
 
+abbrev windowReadHears : Reply → WindowReadAnswer
+windowReadHears r = if r .number is 0 then WR.Value (r .value) else if r .number is WINDOW-OFFSET then WR.Offset else WR.Lanes
+
+window-read-heard : (a : WindowReadAnswer) → windowReadHears (windowReadSays a) ≡ a
+window-read-heard (WR.Value v) = refl
+window-read-heard WR.Offset = refl
+window-read-heard WR.Lanes = refl
+
+abbrev windowHears : Reply → WindowAnswer
+windowHears r =
+    if r .number is 0 then WA.Done
+    else if r .number is WINDOW-OFFSET then WA.Offset
+    else if r .number is LANES then WA.Lanes
+    else WA.NotHost
+
+window-heard : (a : WindowAnswer) → windowHears (windowSays a) ≡ a
+window-heard WA.Done = refl
+window-heard WA.Offset = refl
+window-heard WA.Lanes = refl
+window-heard WA.NotHost = refl
+
 abbrev claimHears : Claimed → Claim
 claimHears unclaimed = C.None
 claimHears (claimed translation o) = C.Translation o
@@ -112,6 +139,12 @@ portWroteHears r = record { answer = portWriteHears (r .reply); state = r .state
 port-wrote-heard : (a : PortWritten) → portWroteHears (portWrote a) ≡ a
 port-wrote-heard a = rw (port-write-heard (a .answer))
 
+abbrev reachedHears : Outcome → Reached
+reachedHears r = record { answer = windowHears (r .reply); state = r .state }
+
+reached-heard : (a : Reached) → reachedHears (reached a) ≡ a
+reached-heard a = rw (window-heard (a .answer))
+
 -- ---- the entries
 
 module _ (s : State) where
@@ -129,6 +162,13 @@ module _ (s : State) where
 
   pub one-port-write : (port w v : ℕ) (p q : PortWritten) → portWrote p ≡ portWriteOf s port w v → portWrote q ≡ portWriteOf s port w v → p ≡ q
   one-port-write port w v p q = one-answer portWrote portWroteHears port-wrote-heard p q
+
+  pub one-window-read : (o l : ℕ) (p q : WindowReadAnswer) → windowReadSays p ≡ windowReadOf s o l → windowReadSays q ≡ windowReadOf s o l → p ≡ q
+  one-window-read o l p q = one-answer windowReadSays windowReadHears window-read-heard p q
+
+  -- a guest write in the window, a completion, a fault, a mirror update: whichever outcome is promised
+  pub one-reached : (r : Outcome) (p q : Reached) → reached p ≡ r → reached q ≡ r → p ≡ q
+  one-reached r p q = one-answer reached reachedHears reached-heard p q
 
   pub one-memory-claim : (a : ℕ) (p q : Claim) → claimSays p ≡ memoryClaimOf s a → claimSays q ≡ memoryClaimOf s a → p ≡ q
   one-memory-claim a p q = one-answer claimSays claimHears claim-heard p q

@@ -11,5 +11,5 @@ use Rattle.talk.proofs.Console.{console-after}
 use Rattle.dumps.specs.Dump.{dumpText}
 use Rattle.snapshot.specs.Shown.{snapshotOf}
 
-pub snapshot-is : (xs : List (List ℕ)) → dumpText (imageOf (blocksState lineNext lineSay 20 freshOf [] xs)) ≡ snapshotOf (joins xs)
+pub snapshot-is : (xs : List (List ℕ)) → dumpText (imageOf (blocksState lineNext lineSay 27 freshOf [] xs)) ≡ snapshotOf (joins xs)
 snapshot-is xs = ap (λ (s : State). dumpText (imageOf s)) (console-after xs)

@@ -19,8 +19,8 @@ fn show(s: State, out: &mut [u8]) -> usize
 
 // The state after all of standard input; the answers are dropped.
 fn listen(buf: &mut [u8], out: &mut [u8]) -> State
-    requires { ⌜ (length (now buf) ≡ 4116) × (length (now out) ≡ 98784) ⌝ }
-    ensures { λ _. ⌜ length (now (out .exit)) ≡ 98784 ⌝ }
+    requires { ⌜ (length (now buf) ≡ 4123) × (length (now out) ≡ 98952) ⌝ }
+    ensures { λ _. ⌜ length (now (out .exit)) ≡ 98952 ⌝ }
 {
     let mut s = twin::fresh();
     let mut k: usize = 0;

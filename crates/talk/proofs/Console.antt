@@ -11,15 +11,15 @@ use Rattle.play.specs.Session.{joins, allLines, blocksText, after, blocksState}
 use Rattle.play.proofs.Blocks.{in-blocks, after-blocks}
 use Rattle.talk.specs.Console.{callNext, callSay, lineNext, lineSay, consoleOf}
 
--- the first 20 bytes of a line say all
-next-alike : (s : State) (l k : List ℕ) → take 20 l ≡ take 20 k → lineNext s l ≡ lineNext s k
+-- the first 27 bytes of a line say all
+next-alike : (s : State) (l k : List ℕ) → take 27 l ≡ take 27 k → lineNext s l ≡ lineNext s k
 next-alike s l k e = ap (callNext s) (begin-alike l k e)
 
-say-alike : (s : State) (l k : List ℕ) → take 20 l ≡ take 20 k → lineSay s l ≡ lineSay s k
+say-alike : (s : State) (l k : List ℕ) → take 27 l ≡ take 27 k → lineSay s l ≡ lineSay s k
 say-alike s l k e = ap (callSay s) (begin-alike l k e)
 
-pub console-is : (xs : List (List ℕ)) → blocksText lineNext lineSay 20 freshOf [] xs ≡ consoleOf (joins xs)
-console-is xs = in-blocks lineNext lineSay 20 (omega arith) next-alike say-alike xs freshOf
+pub console-is : (xs : List (List ℕ)) → blocksText lineNext lineSay 27 freshOf [] xs ≡ consoleOf (joins xs)
+console-is xs = in-blocks lineNext lineSay 27 (omega arith) next-alike say-alike xs freshOf
 
-pub console-after : (xs : List (List ℕ)) → blocksState lineNext lineSay 20 freshOf [] xs ≡ after lineNext lineSay freshOf (allLines (joins xs))
-console-after xs = after-blocks lineNext lineSay 20 (omega arith) next-alike say-alike xs freshOf
+pub console-after : (xs : List (List ℕ)) → blocksState lineNext lineSay 27 freshOf [] xs ≡ after lineNext lineSay freshOf (allLines (joins xs))
+console-after xs = after-blocks lineNext lineSay 27 (omega arith) next-alike say-alike xs freshOf

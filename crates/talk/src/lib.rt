@@ -3,7 +3,7 @@ ghost use mathlib.Core.Path.{_≡_};
 ghost use mathlib.Core.List.{[], _++_};
 ghost use Prim.Native.Nat.{min, _+_, _-_, _*_, _≤_};
 ghost use lib.ListN.{length, take, drop};
-ghost use Rattle.rules.specs.Answers.{portReadSays, portWriteSays, claimSays};
+ghost use Rattle.rules.specs.Answers.{portReadSays, portWriteSays, windowReadSays, windowSays, claimSays, reached};
 ghost use Rattle.probe.specs.Probe.{probeSays};
 ghost use Rattle.walk.specs.Walk.{saysOf};
 ghost use Rattle.texts.specs.Text.{textOf};
@@ -17,7 +17,10 @@ use probe::Probed;
 use rules::Claim;
 use rules::PortReadAnswer;
 use rules::PortWriteAnswer;
+use rules::Reached;
 use rules::State;
+use rules::WindowAnswer;
+use rules::WindowReadAnswer;
 use texts::Said;
 use walk::Found;
 
@@ -106,6 +109,41 @@ fn port_write_said(a: PortWriteAnswer) -> Said
     }
 }
 
+// ---- the window
+
+fn window_read_said(a: WindowReadAnswer) -> Said
+    ensures { λ r. ⌜ textOf r ≡ valueTextOf (windowReadSays a) ⌝ }
+{
+    match a {
+        WindowReadAnswer::Value(v) => Said::Value(v),
+        WindowReadAnswer::Offset => Said::No(answer::WINDOW_OFFSET),
+        WindowReadAnswer::Lanes => Said::No(answer::LANES),
+    }
+}
+
+fn window_said(a: WindowAnswer) -> Said
+    ensures { λ r. ⌜ textOf r ≡ replyText (windowSays a) ⌝ }
+{
+    match a {
+        WindowAnswer::Done => Said::Done,
+        WindowAnswer::Offset => Said::No(answer::WINDOW_OFFSET),
+        WindowAnswer::Lanes => Said::No(answer::LANES),
+        WindowAnswer::NotHost => Said::No(answer::NOT_HOST),
+    }
+}
+
+// What is said of a change in the window, and its state.
+fn reach(r: Reached) -> Answered
+    ensures { λ d. ⌜ (answerText (d .answer) ≡ replyText (reached r .reply)) × (d .state ≡ r .state) ⌝ }
+{
+    let a = r.answer;
+    let t = r.state;
+    Answered {
+        answer: Answer::Said(window_said(a)),
+        state: t,
+    }
+}
+
 // ---- a call
 
 // The walk over the bytes as a guest reads them.
@@ -161,6 +199,18 @@ pub fn perform(s: State, k: Call) -> Answered
             answer: item(s, i),
             state: s,
         },
+        Call::WindowWrite(o, l, v) => reach(window::write(s, o, l, v)),
+        Call::WindowRead(o, l) => Answered {
+            answer: Answer::Said(window_read_said(window::read(s, o, l))),
+            state: s,
+        },
+        Call::Complete(m) => reach(window::complete(s, m)),
+        Call::Fault(v) => reach(window::fault(s, v)),
+        Call::Cycles(n) => Answered {
+            answer: Answer::Said(Said::Done),
+            state: window::add_cycles(s, n),
+        },
+        Call::Mirror(o, m, v) => reach(window::mirror_update(s, o, m, v)),
     }
 }
 
@@ -323,11 +373,11 @@ pub fn talk(s: State, t: &[u8], out: &mut [u8]) -> Rest
 }
 
 // Bytes of an unfinished line that are kept: more than any line that is a call has.
-const MOST: usize = 20;
+const MOST: usize = 27;
 
 pub fn keep(s: &mut [u8], from: usize, to: usize) -> usize
     requires { ⌜ (from ≤ to) × (to ≤ length (now s)) ⌝ }
-    ensures { λ r. ⌜ (r ≤ 20) × (length (now (s .exit)) ≡ length (now (s .entry))) × (r ≡ min 20 (to - from)) × (take r (now (s .exit)) ≡ take r (drop from (now (s .entry)))) ⌝ }
+    ensures { λ r. ⌜ (r ≤ 27) × (length (now (s .exit)) ≡ length (now (s .entry))) × (r ≡ min 27 (to - from)) × (take r (now (s .exit)) ≡ take r (drop from (now (s .entry)))) ⌝ }
 {
     play::keep_first(s, from, to, MOST)
 }

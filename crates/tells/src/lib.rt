@@ -2,7 +2,7 @@
 ghost use mathlib.Core.Path.{_≡_};
 ghost use Prim.Native.Nat.{_+_, _*_};
 ghost use Rattle.answer.specs.Refusals.{no, ok};
-ghost use Rattle.rules.specs.Answers.{readSays, writeSays, hostSays, portReadSays, portWriteSays, claimSays};
+ghost use Rattle.rules.specs.Answers.{readSays, writeSays, hostSays, portReadSays, portWriteSays, windowReadSays, windowSays, claimSays};
 ghost use Rattle.rules.specs.Read.{readOf};
 ghost use Rattle.probe.specs.Probe.{probeOf, probeSays};
 ghost use Rattle.walk.specs.Walk.{walkOf, saysOf};
@@ -14,6 +14,8 @@ use rules::PortReadAnswer;
 use rules::PortWriteAnswer;
 use rules::ReadAnswer;
 use rules::State;
+use rules::WindowAnswer;
+use rules::WindowReadAnswer;
 use rules::WriteAnswer;
 use walk::Found;
 
@@ -95,6 +97,27 @@ pub fn port_read_told(a: PortReadAnswer) -> Told
         PortReadAnswer::Width => no(answer::WIDTH as u16),
         PortReadAnswer::NotOurs => no(answer::NOT_OURS as u16),
         PortReadAnswer::OtherFunction => no(answer::OTHER_FUNCTION as u16),
+    }
+}
+
+pub fn window_read_told(a: WindowReadAnswer) -> Told
+    ensures { λ r. ⌜ said r ≡ windowReadSays a ⌝ }
+{
+    match a {
+        WindowReadAnswer::Value(v) => ok(0, v),
+        WindowReadAnswer::Offset => no(answer::WINDOW_OFFSET as u16),
+        WindowReadAnswer::Lanes => no(answer::LANES as u16),
+    }
+}
+
+pub fn window_told(a: WindowAnswer) -> Told
+    ensures { λ r. ⌜ said r ≡ windowSays a ⌝ }
+{
+    match a {
+        WindowAnswer::Done => ok(0, 0),
+        WindowAnswer::Offset => no(answer::WINDOW_OFFSET as u16),
+        WindowAnswer::Lanes => no(answer::LANES as u16),
+        WindowAnswer::NotHost => no(answer::NOT_HOST as u16),
     }
 }
 

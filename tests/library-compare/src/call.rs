@@ -93,6 +93,15 @@ fn door(twin: &mut Twin, op: u32, a: u32, b: u32, c: u32) -> Result<u64, Refusal
             twin.end_signal();
             0
         }
+        11 => done(twin.window_write(a, b, c)),
+        12 => value(twin.window_read(a, b)),
+        13 => done(twin.complete(a)),
+        14 => done(twin.fault(a)),
+        15 => {
+            twin.add_cycles(a);
+            0
+        }
+        16 => done(twin.mirror_update(a, b, c)),
         _ => return Err(Refusal::Line),
     };
     Ok(answer)

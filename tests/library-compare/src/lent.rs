@@ -1,10 +1,15 @@
 //! A record as a bench lends it, with bytes around it that nobody may touch.
 
 use second::twin::Record;
+use second::window::Register;
 use twin::Twin;
 
 /// Bytes of a record.
-pub const SIZE: usize = 264;
+pub const SIZE: usize = 288;
+/// Where the port latch stands in it, the busy byte, and the window.
+pub const LATCH: usize = 256;
+pub const BUSY: usize = 263;
+pub const WINDOW: usize = 264;
 /// Bytes on each side; they leave the record aligned to 4 bytes and no more.
 const BESIDE: usize = 20;
 
@@ -34,12 +39,32 @@ impl Lent {
         pointer
     }
 
-    /// Bytes 0 to 263 of the record, and those beside it from 264 on.
+    /// A byte of the record, or from SIZE on one behind it.
     pub fn byte(&mut self, at: usize) -> &mut u8 {
         match at.checked_sub(SIZE) {
             None => &mut self.record[at],
             Some(behind) => &mut self.behind[behind],
         }
+    }
+
+    /// Four bytes of the record, low first.
+    fn dword(&self, at: usize) -> u32 {
+        u32::from_le_bytes(self.record[at..at + 4].try_into().expect("4 bytes"))
+    }
+
+    /// Puts four bytes into the record, low first.
+    pub fn put_dword(&mut self, at: usize, dword: u32) {
+        self.record[at..at + 4].copy_from_slice(&dword.to_le_bytes());
+    }
+
+    /// What a register of the window holds.
+    pub fn register(&self, register: Register) -> u32 {
+        self.dword(place(register))
+    }
+
+    /// Makes a register of the window hold a number.
+    pub fn put_register(&mut self, register: Register, number: u32) {
+        self.put_dword(place(register), number);
     }
 
     /// The bytes beside the record.
@@ -49,12 +74,17 @@ impl Lent {
 
     /// The record's fields, by the layout that the header gives.
     pub fn fields(&self) -> Record {
-        let (bytes, rest) = self.record.split_at(256);
         Record {
-            bytes: bytes.try_into().expect("256 bytes"),
-            latch: u32::from_le_bytes(rest[..4].try_into().expect("4 bytes")),
-            closed: rest[4..7].try_into().expect("3 bytes"),
-            busy: rest[7],
+            bytes: self.record[..LATCH].try_into().expect("256 bytes"),
+            latch: self.dword(LATCH),
+            closed: self.record[LATCH + 4..BUSY].try_into().expect("3 bytes"),
+            busy: self.record[BUSY],
+            window: Register::ALL.map(|register| self.register(register)),
         }
     }
+}
+
+/// Where a register of the window stands in the record.
+fn place(register: Register) -> usize {
+    WINDOW + 4 * register as usize
 }

@@ -3,7 +3,7 @@
 //! record compared after each.
 //!
 //! Everything that the library can be seen to do is compared: the packed
-//! answer, the 264 bytes of the record, the bytes just before and behind it,
+//! answer, the 288 bytes of the record, the bytes just before and behind it,
 //! and the bytes that a walk goes over.
 
 pub mod call;
@@ -72,7 +72,9 @@ impl<'a> Pair<'a> {
         let mut made = call.clone();
         let theirs = (self.library)(&mut self.lent, &mut made);
         let ours = answer(&mut self.twin, call);
-        tally.count(call, ours, Phase::of(was_busy, self.twin.is_busy()));
+        let phase = Phase::of(was_busy, self.twin.is_busy());
+        let turn = self.lent.fields().window.cmp(&before.fields().window);
+        tally.count(call, ours, phase, turn);
         self.compare(&before, theirs, ours)?;
         if made != *call {
             return Err("the bytes walked over were changed".to_string());
@@ -99,7 +101,7 @@ impl<'a> Pair<'a> {
         }
         if is != wanted {
             return Err(format!(
-                "latch, flags and busy byte are {}, and {} in the second program",
+                "latch, flags, busy byte and window are {}, and {} in the second program",
                 behind_the_bytes(&is),
                 behind_the_bytes(&wanted)
             ));
@@ -108,20 +110,20 @@ impl<'a> Pair<'a> {
     }
 }
 
-/// A record's latch, flags and busy byte.
+/// A record's latch, flags, busy byte and window.
 fn behind_the_bytes(record: &Record) -> String {
     format!(
-        "{:08X} {:02X?} {:02X}",
-        record.latch, record.closed, record.busy
+        "{:08X} {:02X?} {:02X} {:08X?}",
+        record.latch, record.closed, record.busy, record.window
     )
 }
 
 /// Steps from the fresh state in one session.
-const FRESH_STEPS: usize = 1000;
+const FRESH_STEPS: usize = 1200;
 /// Records of foreign making in one session.
 const FOREIGN_RECORDS: usize = 20;
 /// Steps on each of them.
-const FOREIGN_STEPS: usize = 50;
+const FOREIGN_STEPS: usize = 60;
 
 /// The session of a seed: a long run from the fresh state, and short ones over
 /// records of foreign making.

@@ -3,9 +3,10 @@
 use second::map;
 use second::rng::Rng;
 use second::twin::Twin;
+use second::window::Register;
 
 use crate::call::Call;
-use crate::lent::{Lent, SIZE};
+use crate::lent::{Lent, BUSY, LATCH, SIZE, WINDOW};
 
 /// Dwords with write-once fields, the size code, bases, power state, the list
 /// pointer's bit, and AFCTL.
@@ -31,12 +32,15 @@ pub fn foreign(rng: &mut Rng) -> Lent {
         record[0x40..256].fill_with(|| 0x40 + rng.below(0xC0) as u8); // a list that seldom ends
     }
     if rng.one_in(2) {
-        record[256..260].copy_from_slice(&latch(rng).to_le_bytes());
+        record[LATCH..LATCH + 4].copy_from_slice(&latch(rng).to_le_bytes());
     }
     if rng.one_in(2) {
-        record[260..263].fill_with(|| rng.byte());
+        record[LATCH + 4..BUSY].fill_with(|| rng.byte());
     }
-    record[263] = match rng.below(6) {
+    if rng.one_in(2) {
+        record[WINDOW..].fill_with(|| rng.byte());
+    }
+    record[BUSY] = match rng.below(6) {
         0 => 1,
         1 => rng.byte(),
         _ => 0,
@@ -100,19 +104,50 @@ fn width(rng: &mut Rng) -> u32 {
     rng.pick(&[1, 2, 4, 4, 4, few, any])
 }
 
-/// A mask of host bits, or of one bit more, or any.
+/// Some of the host's bits, or all, or one bit more, or any below 2 to the `bits`.
+fn host_bits(rng: &mut Rng, host: u32, bits: u32) -> u32 {
+    match rng.below(6) {
+        0 => rng.dword() & u32::MAX >> (32 - bits),
+        1 => host | 1 << rng.below(bits.into()),
+        2 => host,
+        _ => host & rng.dword(),
+    }
+}
+
+/// A mask for a host update of a byte.
 fn mask(rng: &mut Rng, at: u32) -> u32 {
     let host = (0..8)
         .map(|place| 1u8 << place)
         .filter(|bit| at < 256 && map::paper().host_may_change(at as usize, *bit))
         .sum::<u8>();
-    let mask = match rng.below(6) {
-        0 => rng.byte(),
-        1 => host | 1 << rng.below(8),
-        2 => host,
-        _ => host & rng.byte(),
+    let mask = host_bits(rng, host.into(), 8);
+    mostly_below(rng, 8, mask)
+}
+
+/// The bits that a completion may have, and those of a fault word.
+const REQUESTS: u32 = 0xF;
+const FAULT_WORD: u32 = 0x77FE;
+
+/// A register's offset in the window, or one near it, unaligned, above the
+/// window, or any.
+fn window_offset(rng: &mut Rng) -> u32 {
+    let register = rng.pick(&Register::ALL).offset();
+    match rng.below(16) {
+        0 => rng.dword(),
+        1 => rng.dword() & 0x3F_FFFC,
+        2 => register ^ 1 << rng.below(32),
+        3 => register - 8 + rng.below(16) as u32,
+        _ => register,
+    }
+}
+
+/// A mask for an update at that offset, now and then by another register's.
+fn mirror_mask(rng: &mut Rng, at: u32) -> u32 {
+    let register = match rng.below(6) {
+        0 => Some(rng.pick(&Register::ALL)),
+        _ => Register::at(at),
     };
-    mostly_below(rng, 8, mask.into())
+    host_bits(rng, register.map_or(0, Register::update_mask), 32)
 }
 
 /// A memory address in or near a window, or any.
@@ -192,7 +227,7 @@ fn wanted(rng: &mut Rng) -> u8 {
 
 fn through_the_door(rng: &mut Rng, twin: &Twin) -> Call {
     let spare = rng.dword();
-    match rng.below(42) {
+    match rng.below(62) {
         0 if rng.one_in(5) => Call::Do(0, spare, rng.dword(), rng.dword()),
         0..=6 => Call::Do(1, offset(rng), lanes(rng), rng.telling_dword()),
         7..=9 => Call::Do(2, offset(rng), lanes(rng), spare),
@@ -222,7 +257,20 @@ fn through_the_door(rng: &mut Rng, twin: &Twin) -> Call {
             Call::Do(9, mostly_below(rng, 8, id), rng.dword(), spare)
         }
         38..=39 => Call::Do(10, spare, rng.dword(), rng.dword()),
-        40 => Call::Do(11 + rng.below(300) as u32, spare, rng.dword(), rng.dword()),
+        40..=45 => Call::Do(11, window_offset(rng), lanes(rng), rng.telling_dword()),
+        46..=48 => Call::Do(12, window_offset(rng), lanes(rng), spare),
+        49..=50 => Call::Do(13, host_bits(rng, REQUESTS, 32), rng.dword(), spare),
+        51..=53 => Call::Do(14, host_bits(rng, FAULT_WORD, 32), rng.dword(), spare),
+        54..=55 => Call::Do(15, rng.telling_dword(), rng.dword(), spare),
+        56..=59 => {
+            let at = window_offset(rng);
+            Call::Do(16, at, mirror_mask(rng, at), rng.telling_dword())
+        }
+        60 => {
+            let above = rng.pick(&[3, 300]);
+            let op = 17 + rng.below(above) as u32;
+            Call::Do(op, spare, rng.dword(), rng.dword())
+        }
         _ => Call::Do(rng.telling_dword(), spare, rng.dword(), rng.dword()),
     }
 }

@@ -1,9 +1,11 @@
 //! Calls in order, not made: every dword with every lanes, every bit by a host
-//! update, every port near the pair, every length of a walk, and so on, over
-//! records that are idle and busy.
+//! update, every port near the pair, every length of a walk, every request to
+//! the window, and so on, over records that are idle and busy.
+
+use second::window::{Register, REGISTERS};
 
 use crate::call::Call;
-use crate::lent::{Lent, SIZE};
+use crate::lent::{Lent, BUSY, LATCH, SIZE};
 use crate::tally::Tally;
 use crate::{Difference, Library, Pair};
 
@@ -22,7 +24,7 @@ fn records(library: Library) -> Vec<[Lent; 2]> {
     ];
     let with = |record: &Lent, busy: u8| {
         let mut record = *record;
-        *record.byte(263) = busy;
+        *record.byte(BUSY) = busy;
         record
     };
     let busy = [1, 0x80, 0xFF, 7, 2];
@@ -207,9 +209,113 @@ fn walks() -> impl Iterator<Item = Call> {
         }))
 }
 
+/// What the window's registers hold where it is swept over: nothing, all ones,
+/// and numbers of foreign making, without a valid fault and with one.
+const WINDOWS: [[u32; REGISTERS]; 4] = [
+    [0; REGISTERS],
+    [u32::MAX; REGISTERS],
+    [
+        0xFEDC_BA98,
+        0x7654_3215,
+        0x4560_0A01,
+        0x0000_03F1,
+        0x9AB0_1234,
+        0x8000_0000,
+    ],
+    [
+        0x5A00_1153,
+        0x0000_000A,
+        0xBA9F_FFFE,
+        0xFFFF_FF0E,
+        0x654F_FFFF,
+        0x7FFF_FFFF,
+    ],
+];
+
+/// A record with that window.
+fn with_window(record: &Lent, window: [u32; REGISTERS]) -> Lent {
+    let mut record = *record;
+    for (register, number) in Register::ALL.into_iter().zip(window) {
+        record.put_register(register, number);
+    }
+    record
+}
+
+fn registers() -> impl Iterator<Item = u32> {
+    Register::ALL.into_iter().map(Register::offset)
+}
+
+/// The dwords beside each register, the offsets that differ from it in one
+/// bit, and the window's ends: dwords that are no register, and refused offsets.
+fn near_registers() -> impl Iterator<Item = u32> {
+    registers()
+        .flat_map(|at| {
+            let one_bit_off = (0..32).map(move |place| at ^ 1 << place);
+            [at - 4, at + 4].into_iter().chain(one_bit_off)
+        })
+        .chain([0, 0x3F_FFFC, 0x3F_FFFF, 0x40_0000, u32::MAX])
+}
+
+/// Bits, mask bits and lanes of a request, all of them; the bits between are no
+/// requests.
+fn requests() -> impl Iterator<Item = Call> {
+    (0..16).flat_map(|bits| {
+        (0..16).flat_map(move |mask| {
+            let value = 0x5550_AAA0 | mask << 16 | bits;
+            (0..16).map(move |lanes| Call::Do(11, Register::Assrreq.offset(), lanes, value))
+        })
+    })
+}
+
+/// Writes and reads of every register with every lanes, and of what is near one.
+fn window_accesses() -> impl Iterator<Item = Call> {
+    let calls = |offset, lanes| {
+        [
+            Call::Do(11, offset, lanes, 0),
+            Call::Do(11, offset, lanes, u32::MAX),
+            Call::Do(11, offset, lanes, 0xFFFF_FFFE),
+            Call::Do(11, offset, lanes, 1),
+            Call::Do(12, offset, lanes, u32::MAX),
+        ]
+    };
+    let good = registers().flat_map(|at| (0..16).map(move |lanes| (at, lanes)));
+    let near = near_registers().map(|at| (at, 0xF));
+    let bad_lanes = registers()
+        .chain(near_registers())
+        .flat_map(|at| [16, u32::MAX].map(|lanes| (at, lanes)));
+    good.chain(near)
+        .chain(bad_lanes)
+        .flat_map(move |(offset, lanes)| calls(offset, lanes))
+}
+
+/// Every bit of a completion, a fault word, a count and a register's mask, and
+/// some of their sums; and masks with offsets near a register.
+fn window_updates() -> impl Iterator<Item = Call> {
+    let few = [0x77FE, 0x77FF, 0x7F, 0xFFF0_0001, u32::MAX];
+    let numbers = move || (0..32).map(|place| 1 << place).chain(0..16).chain(few);
+    let alone = numbers()
+        .flat_map(|number| (13..=15).map(move |op| Call::Do(op, number, u32::MAX, 0x1234_5678)));
+    let masked = registers()
+        .flat_map(move |at| numbers().map(move |mask| (at, mask)))
+        .chain(near_registers().flat_map(|at| [0, 1, u32::MAX].map(|mask| (at, mask))));
+    alone.chain(
+        masked.flat_map(|(at, mask)| [0, u32::MAX].map(|value| Call::Do(16, at, mask, value))),
+    )
+}
+
 /// Every sweep.
 pub fn all(library: Library, tally: &mut Tally) -> Result<(), Difference> {
     let records = records(library);
+    let [idle, busy] = &records[3];
+    for record in [idle, busy] {
+        sweep(library, "the door", record, doors(), tally)?;
+        for window in WINDOWS {
+            let record = with_window(record, window);
+            sweep(library, "requests", &record, requests(), tally)?;
+            sweep(library, "the window", &record, window_accesses(), tally)?;
+            sweep(library, "its updates", &record, window_updates(), tally)?;
+        }
+    }
     for record in records.iter().flatten() {
         sweep(library, "writes", record, writes(), tally)?;
         sweep(library, "reads", record, reads(), tally)?;
@@ -217,17 +323,11 @@ pub fn all(library: Library, tally: &mut Tally) -> Result<(), Difference> {
         sweep(library, "bad accesses", record, bad_accesses(), tally)?;
         for (latch, call) in ports() {
             let mut record = *record;
-            for (at, byte) in (256..).zip(latch.to_le_bytes()) {
-                *record.byte(at) = byte;
-            }
+            record.put_dword(LATCH, latch);
             sweep(library, "ports", &record, std::iter::once(call), tally)?;
         }
         let record = claiming(record);
         sweep(library, "claims", &record, claims(&record), tally)?;
-    }
-    let [idle, busy] = &records[3];
-    for record in [idle, busy] {
-        sweep(library, "the door", record, doors(), tally)?;
     }
     sweep(library, "probes", idle, probes(), tally)?;
     sweep(library, "walks", idle, walks(), tally)

@@ -1,7 +1,10 @@
 //! What the calls came to, so that a comparison that never meets a case is seen.
 
+use std::cmp::Ordering::{self, Equal, Greater, Less};
 use std::collections::BTreeMap;
 use std::fmt;
+
+use second::window::Register;
 
 use crate::call::Call;
 
@@ -73,38 +76,87 @@ const WANTED: &[(&str, &[u16], &[u16])] = &[
     ("do another", &[9], &[9]),
 ];
 
+/// What can become of a register's number.
+type Turns = &'static [Ordering];
+
+const STAYS: Turns = &[Equal];
+/// A sum is less where it has wrapped.
+const EVERY: Turns = &[Less, Equal, Greater];
+
+/// The window's operations, with the register that the offset names: what can
+/// become of what is held where the call is accepted, idle and busy, and the
+/// refusals.
+const WINDOW: &[(&str, Turns, Turns, &[u16])] = &[
+    ("do 11, FaultReg", &[Less, Equal], STAYS, &[6]),
+    ("do 11, Assrreq", &[Equal, Greater], STAYS, &[6]),
+    ("do 11, Mtouud", STAYS, STAYS, &[6]),
+    ("do 11, MtouudHigh", STAYS, STAYS, &[6]),
+    ("do 11, Mbdsm", STAYS, STAYS, &[6]),
+    ("do 11, CycleSum", STAYS, STAYS, &[6]),
+    ("do 11, no register", STAYS, STAYS, &[6, 16]),
+    ("do 12, FaultReg", STAYS, STAYS, &[6]),
+    ("do 12, Assrreq", STAYS, STAYS, &[6]),
+    ("do 12, Mtouud", STAYS, STAYS, &[6]),
+    ("do 12, MtouudHigh", STAYS, STAYS, &[6]),
+    ("do 12, Mbdsm", STAYS, STAYS, &[6]),
+    ("do 12, CycleSum", STAYS, STAYS, &[6]),
+    ("do 12, no register", STAYS, STAYS, &[6, 16]),
+    ("do 13", &[Less, Equal], &[Less, Equal], &[7]),
+    ("do 14", EVERY, EVERY, &[7]),
+    ("do 15", EVERY, EVERY, &[]),
+    ("do 16, FaultReg", STAYS, STAYS, &[7]),
+    ("do 16, Assrreq", STAYS, STAYS, &[7]),
+    ("do 16, Mtouud", EVERY, EVERY, &[7]),
+    ("do 16, MtouudHigh", EVERY, EVERY, &[7]),
+    ("do 16, Mbdsm", EVERY, EVERY, &[7]),
+    ("do 16, CycleSum", STAYS, STAYS, &[7]),
+    ("do 16, no register", STAYS, STAYS, &[7, 16]),
+];
+
 /// The calls that start a function reset, and those that end one.
 const STARTS: &[&str] = &["write", "write by value", "do 1", "do 4"];
 const ENDS: &[&str] = &["platform reset", "do 0", "do 10"];
 
-fn wanted() -> impl Iterator<Item = Case> {
-    let numbered = |phase, name: &str, numbers: &[u16]| {
-        let case = |n: &u16| (phase, name.to_string(), *n);
-        numbers.iter().map(case).collect::<Vec<Case>>()
-    };
-    let turning = |phase, names: &'static [&str]| {
-        names
-            .iter()
-            .flat_map(move |name| numbered(phase, name, &[0]))
-    };
-    WANTED
+/// The cases of a call in a phase: its numbers.
+fn numbered(phase: Phase, name: &str, numbers: &[u16]) -> Vec<Case> {
+    let case = |number: &u16| (phase, name.to_string(), *number);
+    numbers.iter().map(case).collect()
+}
+
+/// The cases of a call in the window: its turns where it is accepted, and no
+/// turn where it is refused.
+fn in_window(phase: Phase, name: &str, turns: Turns, refusals: &[u16]) -> Vec<Case> {
+    let accepted = turns
         .iter()
-        .flat_map(move |(name, idle, busy)| {
-            [
-                numbered(Phase::Idle, name, idle),
-                numbered(Phase::Busy, name, busy),
-            ]
-            .concat()
-        })
-        .chain(turning(Phase::Starts, STARTS))
-        .chain(turning(Phase::Ends, ENDS))
+        .flat_map(|turn| numbered(phase, &turned(name, *turn), &[0]));
+    let refused = numbered(phase, &turned(name, Equal), refusals);
+    accepted.chain(refused).collect()
+}
+
+fn wanted() -> Vec<Case> {
+    let mut cases = Vec::new();
+    for (name, idle, busy) in WANTED {
+        cases.extend(numbered(Phase::Idle, name, idle));
+        cases.extend(numbered(Phase::Busy, name, busy));
+    }
+    for (name, idle, busy, refusals) in WINDOW {
+        cases.extend(in_window(Phase::Idle, name, idle, refusals));
+        cases.extend(in_window(Phase::Busy, name, busy, refusals));
+    }
+    for (phase, names) in [(Phase::Starts, STARTS), (Phase::Ends, ENDS)] {
+        for name in names {
+            cases.extend(numbered(phase, name, &[0]));
+        }
+    }
+    cases
 }
 
 impl Tally {
-    /// Counts a call and its answer.
-    pub fn count(&mut self, call: &Call, answer: u64, phase: Phase) {
+    /// Counts a call and its answer. The turn is that of what the window holds:
+    /// no call changes more than one of its registers, but a platform reset.
+    pub fn count(&mut self, call: &Call, answer: u64, phase: Phase, turn: Ordering) {
         self.calls += 1;
-        let name = name(call, (answer >> 32) as u16);
+        let name = name(call, (answer >> 32) as u16, turn);
         let case = (phase, name, (answer >> 48) as u16);
         *self.seen.entry(case).or_default() += 1;
     }
@@ -116,13 +168,11 @@ impl Tally {
 
     /// Calls with answers that were never met, and met ones that cannot be.
     pub fn faults(&self) -> Vec<String> {
-        let unmet = wanted().filter(|case| !self.seen.contains_key(case));
-        let odd = self
-            .seen
-            .keys()
-            .filter(|case| wanted().all(|w| w != **case));
+        let wanted = wanted();
+        let unmet = wanted.iter().filter(|case| !self.seen.contains_key(case));
+        let odd = self.seen.keys().filter(|case| !wanted.contains(case));
         unmet
-            .map(|case| format!("never met: {}", say(&case)))
+            .map(|case| format!("never met: {}", say(case)))
             .chain(odd.map(|case| format!("not expected: {}", say(case))))
             .collect()
     }
@@ -132,7 +182,12 @@ fn say((phase, name, number): &Case) -> String {
     format!("{phase:?}: {name}, number {number}")
 }
 
-fn name(call: &Call, high: u16) -> String {
+/// A call in the window by what it makes of the register.
+fn turned(name: &str, turn: Ordering) -> String {
+    format!("{name}, {turn:?}")
+}
+
+fn name(call: &Call, high: u16, turn: Ordering) -> String {
     let kind = || match high {
         0 => "no kind".to_string(),
         kind => format!("kind {kind}"),
@@ -149,6 +204,12 @@ fn name(call: &Call, high: u16) -> String {
         Call::Do(op @ 6..=7, ..) => format!("do {op}, window {high}"),
         Call::Do(8, ..) => format!("do 8, {}", kind()),
         Call::Do(9, ..) => format!("do 9, {}", item()),
+        Call::Do(op @ (11 | 12 | 16), offset, ..) => {
+            let register = Register::at(*offset)
+                .map_or_else(|| "no register".to_string(), |named| format!("{named:?}"));
+            turned(&format!("do {op}, {register}"), turn)
+        }
+        Call::Do(op @ 13..=15, ..) => turned(&format!("do {op}"), turn),
         Call::Do(..) => "do another".to_string(),
     }
 }

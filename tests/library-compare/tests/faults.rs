@@ -2,13 +2,14 @@
 //! archive with a fault, and must find it.
 
 use library_compare::call::{archive, Call};
-use library_compare::lent::Lent;
+use library_compare::lent::{Lent, BUSY, SIZE};
 use library_compare::tally::Tally;
 use library_compare::{compare, session, Library};
+use second::window::Register;
 
 /// Whether the made sessions alone find the fault.
 fn sessions_find(library: Library) -> bool {
-    (0..20).any(|seed| session(library, seed, &mut Tally::default()).is_err())
+    (0..100).any(|seed| session(library, seed, &mut Tally::default()).is_err())
 }
 
 /// Whether the sweeps alone find it.
@@ -36,10 +37,8 @@ fn written(call: &Call, answer: u64) -> Option<(u32, u32, u32)> {
     }
 }
 
-const BUSY: usize = 263;
-
-fn is_busy(lent: &mut Lent) -> bool {
-    *lent.byte(BUSY) != 0
+fn is_busy(lent: &Lent) -> bool {
+    lent.fields().busy != 0
 }
 
 /// The archive, with what a fault does to the record where a call starts a
@@ -61,7 +60,7 @@ fn at_an_end(fault: impl Fn(&mut Lent, &mut Lent)) -> impl Fn(&mut Lent, &mut Ca
     move |lent, call| {
         let mut before = *lent;
         let answer = archive(lent, call);
-        if matches!(call, Call::Do(10, ..)) && is_busy(&mut before) {
+        if matches!(call, Call::Do(10, ..)) && is_busy(&before) {
             fault(&mut before, lent);
         }
         answer
@@ -86,9 +85,9 @@ fn deaf_to_busy(such: impl Fn(&Call) -> bool) -> impl Fn(&mut Lent, &mut Call) -
 /// The archive, but such calls change nothing while a function reset runs.
 fn dropped_while_busy(such: impl Fn(&Call) -> bool) -> impl Fn(&mut Lent, &mut Call) -> u64 {
     move |lent, call| {
-        let mut before = *lent;
+        let before = *lent;
         let answer = archive(lent, call);
-        if such(call) && is_busy(&mut before) {
+        if such(call) && is_busy(&before) {
             *lent = before;
         }
         answer
@@ -109,9 +108,80 @@ fn undriven_as_zeros(such: impl Fn(&Call) -> bool) -> impl Fn(&mut Lent, &mut Ca
         let answer = archive(lent, call);
         match *call {
             _ if refused(answer) || !such(call) => answer,
-            Call::Read(_, lanes) | Call::Do(2, _, lanes, _) => answer & !undriven(lanes),
+            Call::Read(_, lanes) | Call::Do(2 | 12, _, lanes, _) => answer & !undriven(lanes),
             _ => answer,
         }
+    }
+}
+
+/// The mirrors in the window.
+const MIRRORS: [Register; 3] = [Register::Mtouud, Register::MtouudHigh, Register::Mbdsm];
+
+/// The archive, but where the operation `op` is accepted it makes of a register
+/// what the rule says, from what it held and the call's arguments. An operation
+/// with an offset does so where that is the register's; what a busy function
+/// drops stays dropped.
+fn remade(
+    op: u32,
+    register: Register,
+    rule: impl Fn(u32, [u32; 3]) -> u32,
+) -> impl Fn(&mut Lent, &mut Call) -> u64 {
+    move |lent, call| {
+        let held = lent.register(register);
+        let drops = op == 11 && is_busy(lent);
+        let answer = archive(lent, call);
+        if let Call::Do(done, a, b, c) = *call {
+            let there = !matches!(op, 11 | 16) || a == register.offset();
+            if done == op && there && !drops && !refused(answer) {
+                lent.put_register(register, rule(held, [a, b, c]));
+            }
+        }
+        answer
+    }
+}
+
+/// The same of a guest write, by what was held, the lanes and the value.
+fn written_as(
+    register: Register,
+    rule: impl Fn(u32, u32, u32) -> u32,
+) -> impl Fn(&mut Lent, &mut Call) -> u64 {
+    remade(11, register, move |held, [_, lanes, value]| {
+        rule(held, lanes, value)
+    })
+}
+
+/// The same of a request: a write to ASSRREQ with both its lanes, by what was
+/// held, the value's low half, and its mask.
+fn requested_as(rule: impl Fn(u32, u32, u32) -> u32) -> impl Fn(&mut Lent, &mut Call) -> u64 {
+    written_as(Register::Assrreq, move |held, lanes, value| {
+        match lanes & 0x5 {
+            0x5 => rule(held, value & 0xFFFF, value >> 16),
+            _ => held,
+        }
+    })
+}
+
+/// The archive, but it answers such calls otherwise; the record stays as it is
+/// before the call.
+fn answered_otherwise(
+    otherwise: impl Fn(&Lent, &Call, u64) -> Option<u64>,
+) -> impl Fn(&mut Lent, &mut Call) -> u64 {
+    move |lent, call| {
+        let before = *lent;
+        let answer = archive(lent, call);
+        match otherwise(&before, call, answer) {
+            Some(other) => {
+                *lent = before;
+                other
+            }
+            None => answer,
+        }
+    }
+}
+
+fn clear_window(lent: &mut Lent) {
+    for register in Register::ALL {
+        lent.put_register(register, 0);
     }
 }
 
@@ -451,7 +521,7 @@ fn a_byte_behind_the_record() {
     found_by_both(&|lent, call| {
         let answer = archive(lent, call);
         if written(call, answer).is_some() {
-            *lent.byte(264) = 0;
+            *lent.byte(SIZE) = 0;
         }
         answer
     });
@@ -553,4 +623,365 @@ fn an_aperture_tested_by_base_and_size() {
         answer
     };
     assert!(sessions_find(&library), "the sessions miss it");
+}
+
+// ---- the window
+
+#[test]
+fn a_request_without_its_mask_bit() {
+    found_by_both(&requested_as(|held, bits, _| held | bits & 0xF));
+}
+
+#[test]
+fn a_request_by_its_mask_bit_alone() {
+    found_by_both(&requested_as(|held, _, mask| held | mask & 0xF));
+}
+
+#[test]
+fn a_request_with_one_of_its_lanes() {
+    for lane in [0x1, 0x4] {
+        found_by_both(&written_as(
+            Register::Assrreq,
+            |held, lanes, value| match lanes & lane {
+                0 => held,
+                _ => held | value & value >> 16 & 0xF,
+            },
+        ));
+    }
+}
+
+#[test]
+fn a_request_that_needs_every_lane() {
+    found_by_both(&written_as(
+        Register::Assrreq,
+        |held, lanes, value| match lanes {
+            0xF => held | value & value >> 16 & 0xF,
+            _ => held,
+        },
+    ));
+}
+
+#[test]
+fn a_guest_write_that_clears_a_request() {
+    found_by_both(&requested_as(|held, bits, mask| {
+        held & !(mask & 0xF) | bits & mask & 0xF
+    }));
+}
+
+#[test]
+fn a_request_above_bit_3() {
+    found_by_both(&requested_as(|held, bits, mask| held | bits & mask & 0x1F));
+}
+
+#[test]
+fn a_mask_that_is_shown() {
+    found_by_both(&answered_otherwise(|before, call, answer| {
+        let mask = before.register(Register::Assrreq) & 0xFFFF_0000;
+        let shows = matches!(call, Call::Do(12, 0x0810C, ..)) && !refused(answer);
+        shows.then_some(answer | u64::from(mask))
+    }));
+}
+
+#[test]
+fn a_completion_of_every_request() {
+    found_by_both(&remade(13, Register::Assrreq, |held, _| held & !0xF));
+}
+
+#[test]
+fn a_completion_that_clears_more_than_requests() {
+    found_by_both(&remade(13, Register::Assrreq, |held, [mask, ..]| {
+        held & 0xF & !mask
+    }));
+}
+
+#[test]
+fn a_second_fault_that_overwrites() {
+    found_by_both(&remade(14, Register::FaultReg, |_, [word, ..]| word | 1));
+}
+
+#[test]
+fn a_fault_without_valid() {
+    found_by_both(&remade(14, Register::FaultReg, |held, [word, ..]| {
+        match held & 1 {
+            0 => word,
+            _ => held,
+        }
+    }));
+}
+
+#[test]
+fn a_fault_beside_what_was_held() {
+    found_by_both(&remade(14, Register::FaultReg, |held, [word, ..]| {
+        match held & 1 {
+            0 => held | word | 1,
+            _ => held,
+        }
+    }));
+}
+
+#[test]
+fn a_lost_fault_that_is_refused() {
+    found_by_both(&answered_otherwise(|before, call, answer| {
+        let lost = matches!(call, Call::Do(14, ..)) && before.register(Register::FaultReg) & 1 == 1;
+        (lost && !refused(answer)).then_some(7 << 48)
+    }));
+}
+
+#[test]
+fn a_fault_that_is_cleared_without_lane_0() {
+    found_by_both(&written_as(
+        Register::FaultReg,
+        |held, lanes, value| match (lanes, value & 1) {
+            (1.., 0) => 0,
+            _ => held,
+        },
+    ));
+}
+
+#[test]
+fn a_fault_that_is_cleared_by_a_one() {
+    found_by_both(&written_as(Register::FaultReg, |held, lanes, _| {
+        match lanes & 1 {
+            1 => 0,
+            _ => held,
+        }
+    }));
+}
+
+#[test]
+fn a_fault_of_which_valid_alone_is_cleared() {
+    found_by_both(&written_as(
+        Register::FaultReg,
+        |held, lanes, value| match (lanes & 1, value & 1) {
+            (1, 0) => held & !1,
+            _ => held,
+        },
+    ));
+}
+
+#[test]
+fn a_sum_that_stops_at_the_top() {
+    found_by_both(&remade(15, Register::CycleSum, |held, [count, ..]| {
+        held.saturating_add(count)
+    }));
+}
+
+#[test]
+fn a_sum_that_is_the_last_count() {
+    found_by_both(&remade(15, Register::CycleSum, |_, [count, ..]| count));
+}
+
+#[test]
+fn a_guest_write_that_clears_a_mirror_or_the_sum() {
+    for register in MIRRORS.into_iter().chain([Register::CycleSum]) {
+        found_by_both(&written_as(register, |held, lanes, value| {
+            match (lanes, value) {
+                (0xF, 0) => 0,
+                _ => held,
+            }
+        }));
+    }
+}
+
+#[test]
+fn a_mirror_update_of_every_bit() {
+    for register in MIRRORS {
+        found_by_both(&remade(16, register, |held, [_, mask, value]| match mask {
+            0 => held,
+            _ => value & register.update_mask(),
+        }));
+    }
+}
+
+#[test]
+fn a_mirror_with_another_ones_mask() {
+    let wide = Register::Mbdsm.update_mask();
+    found_by_both(&answered_otherwise(|_, call, answer| match call {
+        Call::Do(16, 0x108084, mask, _) if mask & !wide == 0 && refused(answer) => Some(0),
+        _ => None,
+    }));
+}
+
+#[test]
+fn bits_outside_the_masks_that_are_not_refused() {
+    for op in [13, 14, 16] {
+        found_by_both(&answered_otherwise(|_, call, answer| match call {
+            Call::Do(done, ..) if *done == op && answer >> 48 == 7 => Some(0),
+            _ => None,
+        }));
+    }
+}
+
+#[test]
+fn a_mask_of_0_that_is_refused_where_no_mirror_is() {
+    found_by_both(&answered_otherwise(|_, call, answer| match call {
+        Call::Do(16, offset, 0, _) if !refused(answer) => {
+            let mirror = Register::at(*offset).is_some_and(|named| MIRRORS.contains(&named));
+            (!mirror).then_some(7 << 48)
+        }
+        _ => None,
+    }));
+}
+
+#[test]
+fn a_mask_refused_before_the_window_offset() {
+    found_by_both(&answered_otherwise(|_, call, answer| match call {
+        Call::Do(16, _, 1.., _) if answer >> 48 == 16 => Some(7 << 48),
+        _ => None,
+    }));
+}
+
+#[test]
+fn lanes_refused_before_the_window_offset() {
+    for op in [11, 12] {
+        found_by_both(&answered_otherwise(|_, call, _| match call {
+            Call::Do(done, _, 16.., _) if *done == op => Some(6 << 48),
+            _ => None,
+        }));
+    }
+}
+
+#[test]
+fn a_window_offset_cut_to_22_bits() {
+    for op in [11, 12, 16] {
+        found_by_both(&|lent, call| match *call {
+            Call::Do(done, offset, b, c) if done == op && offset % 4 == 0 => {
+                archive(lent, &mut Call::Do(op, offset & 0x3F_FFFF, b, c))
+            }
+            _ => archive(lent, call),
+        });
+    }
+}
+
+#[test]
+fn an_unaligned_window_offset_that_is_rounded() {
+    for op in [11, 12, 16] {
+        found_by_both(&|lent, call| match *call {
+            Call::Do(done, offset, b, c) if done == op => {
+                archive(lent, &mut Call::Do(op, offset & !3, b, c))
+            }
+            _ => archive(lent, call),
+        });
+    }
+}
+
+#[test]
+fn an_offset_of_which_a_bit_does_not_count() {
+    for place in 2..22 {
+        let library = |lent: &mut Lent, call: &mut Call| match *call {
+            Call::Do(12, offset, lanes, c) if Register::at(offset).is_none() => {
+                let beside = Register::at(offset ^ 1 << place).map_or(offset, Register::offset);
+                archive(lent, &mut Call::Do(12, beside, lanes, c))
+            }
+            _ => archive(lent, call),
+        };
+        assert!(sweeps_find(&library), "the sweeps miss bit {place}");
+    }
+}
+
+#[test]
+fn a_window_that_is_there_only_with_memory_on() {
+    found_by_both(&answered_otherwise(|before, call, answer| {
+        let off = before.fields().bytes[0x04] & 0x02 == 0;
+        let written = matches!(call, Call::Do(11, ..)) && !refused(answer);
+        (off && written).then_some(0)
+    }));
+}
+
+#[test]
+fn a_window_read_with_zeros_in_lanes_that_are_not_enabled() {
+    found_by_both(&undriven_as_zeros(|call| matches!(call, Call::Do(12, ..))));
+}
+
+#[test]
+fn a_window_read_that_clears_what_it_shows() {
+    found_by_both(&|lent, call| {
+        let answer = archive(lent, call);
+        if matches!(call, Call::Do(12, 0x04094, ..)) && !refused(answer) {
+            lent.put_register(Register::FaultReg, 0);
+        }
+        answer
+    });
+}
+
+#[test]
+fn a_busy_window_read_of_zeros() {
+    found_by_both(&answered_otherwise(|before, call, answer| {
+        let read = matches!(call, Call::Do(12, ..)) && !refused(answer);
+        (read && is_busy(before)).then_some(0)
+    }));
+}
+
+#[test]
+fn a_busy_window_read_that_shows_what_is_held() {
+    found_by_both(&deaf_to_busy(|call| matches!(call, Call::Do(12, ..))));
+}
+
+#[test]
+fn a_busy_window_write_that_is_stored() {
+    found_by_both(&deaf_to_busy(|call| matches!(call, Call::Do(11, ..))));
+}
+
+#[test]
+fn a_host_that_is_not_heard_in_the_window_while_busy() {
+    for op in 13..=16 {
+        found_by_both(&dropped_while_busy(
+            |call| matches!(call, Call::Do(done, ..) if *done == op),
+        ));
+    }
+}
+
+#[test]
+fn a_start_that_clears_the_window() {
+    found_by_both(&at_a_start(clear_window));
+}
+
+#[test]
+fn an_end_signal_that_clears_the_window() {
+    found_by_both(&at_an_end(|_, lent| clear_window(lent)));
+}
+
+#[test]
+fn a_platform_reset_that_leaves_a_register() {
+    for register in Register::ALL {
+        found_by_both(&|lent, call| {
+            let held = lent.register(register);
+            let answer = archive(lent, call);
+            if matches!(call, Call::PlatformReset | Call::Do(0, ..)) {
+                lent.put_register(register, held);
+            }
+            answer
+        });
+    }
+}
+
+#[test]
+fn a_configuration_write_that_changes_the_window() {
+    for register in Register::ALL {
+        found_by_both(&|lent, call| {
+            let answer = archive(lent, call);
+            if let Some((0x10, _, value)) = written(call, answer) {
+                lent.put_register(register, value);
+            }
+            answer
+        });
+    }
+}
+
+#[test]
+fn a_register_changed_by_a_refusal() {
+    found_by_both(&|lent, call| {
+        let answer = archive(lent, call);
+        if refused(answer) {
+            *lent.byte(SIZE - 1) ^= 0x80;
+        }
+        answer
+    });
+}
+
+#[test]
+fn an_operation_more() {
+    found_by_both(&answered_otherwise(|_, call, _| {
+        matches!(call, Call::Do(17, ..)).then_some(0)
+    }));
 }

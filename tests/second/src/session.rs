@@ -4,8 +4,8 @@
 //! paper, with platform resets, end signals and spoiled lines strewn in between.
 //! A scene in which a function reset starts waits until a busy phase of some
 //! lines is over. The maker keeps a twin of its own, but only to know when it is
-//! busy and has open fields, and to aim its claims at the bases and its cycle
-//! counts at the sum as they stand.
+//! busy, has open fields or holds something in the window, and to aim its claims
+//! and its cycle counts at the bases and the sum as they stand.
 
 mod window;
 
@@ -18,6 +18,7 @@ use crate::map;
 use crate::rng::Rng;
 use crate::twin::Twin;
 
+use window::goes_on_in_window;
 pub(crate) use window::{stray_window_line, NEAR_WINDOW};
 
 /// One line in so many is a platform reset: rare enough that locks matter.
@@ -73,15 +74,6 @@ enum Step {
     InTranslation(u32),
     /// An addition to the cycle sum as it will stand by then.
     Cycles,
-}
-
-/// What a line was aimed at, and what is to be looked at later.
-#[derive(Clone, Copy)]
-enum Aim {
-    /// A dword of the function.
-    Function(u32),
-    /// A dword of the window.
-    Window(u32),
 }
 
 /// A session in the making.
@@ -268,9 +260,9 @@ impl Session {
 impl Session {
     fn scene(&mut self) {
         if self.mode == Mode::Console {
-            match self.rng.below(5) {
-                0 | 1 => return self.console_scene(),
-                2 => return self.window_scene(),
+            match self.rng.below(16) {
+                0..=5 => return self.console_scene(),
+                6..=8 => return self.window_scene(),
                 _ => {}
             }
         }
@@ -294,8 +286,8 @@ impl Session {
             0..=11 => self.latch_and_data(),
             12..=17 => self.ports_around(),
             18..=27 => self.claims(),
-            28..=33 => self.probes(),
-            34..=36 => self.walks(),
+            28..=32 => self.probes(),
+            33..=36 => self.walks(),
             _ => self.size_probe_of_a_base(),
         }
     }
@@ -498,52 +490,62 @@ impl Session {
 
 /// Busy phases.
 impl Session {
-    /// Puts a busy phase before what is left of the scene: accesses of every
-    /// kind, the end signal, and a look at what they were aimed at.
+    /// Puts a busy phase before what is left of the scene. It is about the
+    /// window if the scene is, and now and then in another of the console.
     fn busy_phase(&mut self) {
         let rest = std::mem::take(&mut self.steps);
-        let aims = self.busy_accesses();
-        self.push(end_signal());
-        if self.rng.one_in(10) {
-            self.push(end_signal());
-        }
-        for aim in aims.into_iter().take(3) {
-            self.look_at(aim);
-        }
-        if self.mode == Mode::Console && self.rng.one_in(5) {
-            self.push(port_read(0x0CF8, 4));
+        let console = self.mode == Mode::Console;
+        if goes_on_in_window(&rest) || console && self.rng.one_in(8) {
+            self.busy_window();
+        } else {
+            self.busy_function();
         }
         self.steps.extend(rest);
     }
 
+    /// Accesses of every kind but to the window, the end signal, and a look at
+    /// what they were aimed at.
+    fn busy_function(&mut self) {
+        let dwords = self.busy_accesses();
+        self.push_end_signal();
+        for dword in dwords.into_iter().take(3) {
+            self.look_at(dword);
+        }
+        if self.mode == Mode::Console && self.rng.one_in(5) {
+            self.push(port_read(0x0CF8, 4));
+        }
+    }
+
+    /// An end signal, now and then with a second one.
+    fn push_end_signal(&mut self) {
+        self.push(end_signal());
+        if self.rng.one_in(10) {
+            self.push(end_signal());
+        }
+    }
+
     /// Some lines while busy, none at times, and the dwords that they would
     /// change if the function weren't busy, or do change.
-    fn busy_accesses(&mut self) -> Vec<Aim> {
-        let most = self.rng.pick(&[4, 8, 12]);
+    fn busy_accesses(&mut self) -> Vec<u32> {
+        let most = self.rng.pick(&[4, 12, 20]);
         let length = self.rng.index(most + 1);
-        let mut aims = Vec::new();
+        let mut dwords = Vec::new();
         while self.steps.len() < length {
-            aims.extend(self.busy_access());
+            dwords.extend(self.busy_access());
         }
         self.steps.truncate(length);
-        aims
+        dwords
     }
 
     /// An access while busy, and its dword if it is a write or a host update.
-    fn busy_access(&mut self) -> Option<Aim> {
-        if self.mode == Mode::Console {
-            match self.rng.below(8) {
-                0..=2 => {
-                    self.busy_console_access();
-                    return None;
-                }
-                3 | 4 => return Some(Aim::Window(self.push_any_access())),
-                _ => {}
-            }
+    fn busy_access(&mut self) -> Option<u32> {
+        if self.mode == Mode::Console && self.rng.one_in(2) {
+            self.busy_console_access();
+            return None;
         }
-        match self.rng.below(8) {
-            0..=3 => Some(Aim::Function(self.busy_write())),
-            4 | 5 => Some(Aim::Function(self.push_host())),
+        match self.rng.below(9) {
+            0..=3 => Some(self.busy_write()),
+            4 | 5 => Some(self.push_host()),
             _ => {
                 self.busy_look();
                 None
@@ -586,10 +588,10 @@ impl Session {
 
     fn busy_console_access(&mut self) {
         match self.rng.below(16) {
-            0..=7 => self.steps.push_back(Step::NearMemoryBase),
-            8 | 9 => self.steps.push_back(Step::NearIoBase),
-            10 | 11 => self.walks(),
-            12 => self.latch_and_data(),
+            0..=6 => self.steps.push_back(Step::NearMemoryBase),
+            7 => self.steps.push_back(Step::NearIoBase),
+            8 | 9 => self.walks(),
+            10..=12 => self.latch_and_data(),
             13 => self.push(port_read(0x0CF8, 4)),
             14 => self.ports_around(),
             _ => self.probes(),
@@ -598,11 +600,7 @@ impl Session {
 
     /// A read of the dword; a write-once field may be written to before, which
     /// shows whether it is still open.
-    fn look_at(&mut self, aim: Aim) {
-        let dword = match aim {
-            Aim::Function(dword) => dword,
-            Aim::Window(offset) => return self.push_window_look(offset),
-        };
+    fn look_at(&mut self, dword: u32) {
         if WRITE_ONCE_DWORDS.contains(&dword) && self.rng.one_in(2) {
             let (lanes, value) = (self.lanes(), self.rng.telling_dword());
             self.push_write(dword, lanes, value);
@@ -668,7 +666,7 @@ impl Session {
                 Step::NearMemoryBase
             });
         }
-        if self.rng.one_in(3) {
+        if self.rng.one_in(2) {
             self.push_write(0xA8, 1, 1);
         }
     }

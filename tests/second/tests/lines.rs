@@ -1,6 +1,7 @@
 //! Which lines are of a known form, and how answers look.
 
 use second::line::Mode::{self, Console, Player};
+use second::line::LONGEST_LINE;
 use second::player::{answers, play, Player as OpenPlayer};
 
 /// The answers to a session as text.
@@ -16,13 +17,19 @@ const PLAYER_LINES: [&str; 6] = [
     "P",
     "E",
 ];
-const CONSOLE_LINES: [&str; 6] = [
+const CONSOLE_LINES: [&str; 12] = [
     "O 0CF8 4 80001000",
     "I 0CF8 4",
     "A FEDCBA9876543210",
     "N 0CF8",
     "S F000000C FFFFFFFF",
     "K 13",
+    "V 00810C F 89ABCDEF",
+    "U 00810C F",
+    "C 0000000F",
+    "F 000077FE",
+    "T 89ABCDEF",
+    "Y 1080C0 FFF00001 89ABCDEF",
 ];
 
 #[test]
@@ -78,7 +85,7 @@ fn every_byte_put_in_and_every_byte_left_out() {
 #[test]
 fn every_other_letter() {
     for letter in (0..=255u8).filter(|letter| *letter != b'\n') {
-        let known = b"WRHPEOIANSK".contains(&letter);
+        let known = b"WRHPEOIANSKVUCFTY".contains(&letter);
         let accepted = PLAYER_LINES
             .iter()
             .chain(&CONSOLE_LINES)
@@ -200,6 +207,68 @@ fn malformed_console_lines() {
 }
 
 #[test]
+fn malformed_window_lines() {
+    for line in [
+        "V 0810C F 000F000F",
+        "V 00810C F 000F",
+        "V 00810C F",
+        "V 00810C 0F 000F000F",
+        "V 00810C 000F000F",
+        "V 0000810C F 000F000F",
+        "V 00810c F 000F000F",
+        "v 00810C F 000F000F",
+        "V 00810C F 000F000F ",
+        "V 00810C  F 000F000F",
+        "U 0810C F",
+        "U 810C F",
+        "U 0000810C F",
+        "U 00810C",
+        "U 00810C ",
+        "U 00810C f",
+        "U 00810C G",
+        "U 00810C 10",
+        "U 00810C F 00000000",
+        "U 0x810C F",
+        "U",
+        "C",
+        "C F",
+        "C 0F",
+        "C 000000F",
+        "C 00000000F",
+        "C 0000000f",
+        "C 0000000F 0000000F",
+        "C 00810C 0000000F",
+        "F",
+        "F 77FE",
+        "F 000077fe",
+        "F 0000077FE",
+        "F 000077FE\r",
+        "F 004094 000077FE",
+        "T",
+        "T 1",
+        "T 0000001",
+        "T 100000000",
+        "T +0000001",
+        "T 138078 00000001",
+        "Y",
+        "Y 1080C0",
+        "Y 1080C0 FFF00001",
+        "Y 1080C0 FFF00001 ABC0000",
+        "Y 1080C0 FFF00001 ABC000000",
+        "Y 1080C0 FFF00001 ABC00000 ",
+        "Y 1080C0 FFF00001 ABC00000 0",
+        "Y 1080C0 01 01",
+        "Y 1080C0 F FFF00001 ABC00000",
+        "Y 10_0C0 FFF00001 ABC00000",
+        "Y 001080C0 FFF00001 ABC00000",
+        "Y 1080c0 FFF00001 ABC00000",
+        "y 1080C0 FFF00001 ABC00000",
+    ] {
+        assert!(refused(line.as_bytes()), "{line:?}");
+    }
+}
+
+#[test]
 fn ends_of_input() {
     for (session, wanted) in [
         ("", ""),
@@ -227,6 +296,21 @@ fn very_long_lines() {
         session.resize(300_000, filling);
         session.extend_from_slice(b"\nR 00 F");
         assert_eq!(say(&session, Player), "NO 9\nOK 01528086\n");
+    }
+}
+
+#[test]
+fn the_longest_line() {
+    let line = "Y 1080C0 FFF00001 89ABCDEF";
+    assert_eq!((line.len(), LONGEST_LINE), (26, 26));
+    for end in ["", "0", " ", "\0", "\r", "00"] {
+        let session = format!("{line}{end}\nU 1080C0 F\n");
+        let wanted = if end.is_empty() {
+            "OK\nOK 89A00001\n"
+        } else {
+            "NO 9\nOK 00000000\n"
+        };
+        assert_eq!(say(session.as_bytes(), Console), wanted, "{session:?}");
     }
 }
 
@@ -271,6 +355,22 @@ fn console_answers() {
         (
             "W 7C 8 01000000\nK 05\nK 01",
             "OK\nOK ABSENT 02\nOK FOUND D0 01\n",
+        ),
+        (
+            "V 00810C F 00090009\nU 00810C F\nU 00810C 2",
+            "OK\nOK 00000009\nOK FFFF00FF\n",
+        ),
+        ("U 00810D F\nV 400000 0 00000000", "NO 16\nNO 16\n"),
+        ("C 0000000F\nC 00000010", "OK\nNO 7\n"),
+        ("F 000077FE\nF 00007FFE", "OK\nNO 7\n"),
+        ("T FFFFFFFF\nU 138078 F", "OK\nOK FFFFFFFF\n"),
+        (
+            "Y 1080C0 FFF00001 89ABCDEF\nU 1080C0 F",
+            "OK\nOK 89A00001\n",
+        ),
+        (
+            "Y 1080C0 FFF00003 89ABCDEF\nY 1080C2 FFF00003 89ABCDEF",
+            "NO 7\nNO 16\n",
         ),
     ] {
         assert_eq!(say(line.as_bytes(), Console), wanted, "{line}");

@@ -2,17 +2,20 @@
 
 mod common {
     pub mod lanes;
+    pub mod registers;
 }
 
 use std::collections::BTreeMap;
 
 use common::lanes::UNDRIVEN;
+use common::registers::*;
 use second::difference::{difference, lines};
 use second::line::Mode::{self, Console, Player};
 use second::line::{answer, parse, Answer, Command};
 use second::player::answers;
+use second::refusal::Refusal;
 use second::session::text;
-use second::twin::{Record, Twin};
+use second::twin::{Claim, Record, Twin};
 
 #[test]
 fn the_same_seed_makes_the_same_session() {
@@ -279,7 +282,6 @@ fn tally(mode: Mode) -> BTreeMap<&'static str, usize> {
 /// lines must find the function not busy.
 fn check_tally(mode: Mode, fewest: &[(&str, usize)]) {
     let tally = tally(mode);
-    println!("{mode:?} {tally:#?}");
     for (name, fewest) in fewest {
         let count = tally.get(name).copied().unwrap_or(0);
         assert!(count >= *fewest, "{mode:?}, {name}: {tally:#?}");
@@ -390,6 +392,217 @@ fn every_session_reads_by_all_lanes() {
             );
         }
     }
+}
+
+// ---- the window
+
+/// What lies at an offset in the window.
+fn place(offset: u32) -> &'static str {
+    match offset {
+        FAULT_REG => "FAULT_REG",
+        ASSRREQ => "ASSRREQ",
+        MTOUUD => "MTOUUD",
+        MTOUUD_HIGH => "MTOUUD high",
+        MBDSM => "MBDSM",
+        CYCLE_SUM => "cycle sum",
+        _ if offset & 3 != 0 => "unaligned",
+        _ if offset > 0x3F_FFFF => "above",
+        _ => "elsewhere",
+    }
+}
+
+/// The bits of the enabled lanes in which a value differs from what is held.
+fn differs(held: u32, lanes: u32, value: u32) -> bool {
+    (held ^ value) & !UNDRIVEN[lanes as usize] != 0
+}
+
+impl Event {
+    /// What it counts as, if it has to do with the window: what is done where,
+    /// whether it finds the function busy, and what comes of it.
+    fn window_names(&self) -> Vec<String> {
+        use Command::*;
+        let name = match self.command {
+            Some(WindowRead { offset, .. }) => format!("read {}", place(offset)),
+            Some(WindowWrite { offset, .. }) => format!("write {}", place(offset)),
+            Some(MirrorUpdate { offset, .. }) => format!("update {}", place(offset)),
+            Some(Complete { .. }) => "completion".to_string(),
+            Some(Fault { .. }) => "fault".to_string(),
+            Some(AddCycles { .. }) => "cycles".to_string(),
+            Some(PlatformReset) => "platform reset".to_string(),
+            Some(End) if self.holds_all_it_held() => "end, all kept".to_string(),
+            _ if self.starts() && self.holds_all_it_held() => "start, all kept".to_string(),
+            _ => return vec![],
+        };
+        let busy = if self.before.is_busy() { ", busy" } else { "" };
+        let name = format!("{name}{busy}{}", self.outcome());
+        let near_misses = self.near_misses();
+        near_misses
+            .into_iter()
+            .map(str::to_string)
+            .chain([name])
+            .collect()
+    }
+
+    fn starts(&self) -> bool {
+        self.after.is_busy() && !self.before.is_busy()
+    }
+
+    /// Whether something is held in the window and the line leaves it.
+    fn holds_all_it_held(&self) -> bool {
+        let held = self.before.record().window;
+        held != [0; 6] && self.after.record().window == held
+    }
+
+    /// What comes of it for the window.
+    fn outcome(&self) -> &'static str {
+        let window = self.before.record().window;
+        if matches!(self.said, Answer::Refused(_)) {
+            ", refused"
+        } else if self.after.record().window != window {
+            ", changed"
+        } else if self.otherwise.record().window != window {
+            ", dropped"
+        } else {
+            ""
+        }
+    }
+
+    /// What a plausible slip would make of it, if the function isn't busy.
+    fn near_misses(&self) -> Vec<&'static str> {
+        use Command::*;
+        let [fault, requests, mtouud, high, mbdsm, sum] = self.before.record().window;
+        let held = match self.command {
+            Some(WindowWrite { offset, .. }) => match offset {
+                MTOUUD => mtouud,
+                MTOUUD_HIGH => high,
+                MBDSM => mbdsm,
+                _ => sum,
+            },
+            _ => 0,
+        };
+        let cases: Vec<(bool, &'static str)> = match (self.command, self.said) {
+            _ if self.before.is_busy() => vec![],
+            (
+                Some(WindowWrite {
+                    offset: ASSRREQ,
+                    lanes,
+                    value,
+                }),
+                _,
+            ) => {
+                let (ones, mask) = (value & 0xF, value >> 16 & 0xF);
+                let new = ones & mask & !requests != 0;
+                vec![
+                    (
+                        lanes & 5 == 5 && ones & !mask & !requests != 0,
+                        "request, no mask bit",
+                    ),
+                    (lanes & 5 == 1 && new, "request, mask's lane off"),
+                    (lanes & 5 == 4 && new, "request, own lane off"),
+                    (
+                        lanes & 5 == 5 && !ones & mask & requests != 0,
+                        "zero over a request",
+                    ),
+                    (
+                        lanes == 15 && value & value >> 16 & 0xFFF0 != 0,
+                        "request above bit 3",
+                    ),
+                ]
+            }
+            (
+                Some(WindowWrite {
+                    offset: FAULT_REG,
+                    lanes,
+                    value,
+                }),
+                _,
+            ) => vec![
+                (
+                    fault != 0 && lanes & 1 == 0 && value & 1 == 0,
+                    "clear, lane off",
+                ),
+                (
+                    fault != 0 && lanes & 1 == 1 && value & 1 == 1,
+                    "clear by a one",
+                ),
+                (
+                    fault > 0xFF && lanes & 3 == 1 && value & 1 == 0,
+                    "clear by its lane alone",
+                ),
+            ],
+            (
+                Some(WindowWrite {
+                    offset: MTOUUD | MTOUUD_HIGH | MBDSM,
+                    lanes,
+                    value,
+                }),
+                _,
+            ) => vec![(differs(held, lanes, value), "write over a mirror")],
+            (
+                Some(WindowWrite {
+                    offset: CYCLE_SUM,
+                    lanes,
+                    value,
+                }),
+                _,
+            ) => vec![(differs(held, lanes, value), "write over the sum")],
+            (Some(Fault { word }), Answer::Done) => vec![
+                (fault != 0 && fault != word | 1, "fault lost"),
+                (fault == 0 && word == 0, "fault of zeros"),
+            ],
+            (Some(Fault { .. }), _) => vec![(fault != 0, "bad word over a fault")],
+            (Some(AddCycles { count }), _) => vec![
+                (sum.checked_add(count).is_none(), "wrap"),
+                (count != 0 && sum.wrapping_add(count) == 0, "wrap to 0"),
+                (sum.wrapping_add(count) == u32::MAX, "sum at the top"),
+            ],
+            (Some(MirrorUpdate { mask, .. }), Answer::Refused(Refusal::WindowOffset)) => {
+                vec![(mask & !0xFFF0_007F != 0, "16 before 7")]
+            }
+            (
+                Some(MirrorUpdate {
+                    offset, mask: 0, ..
+                }),
+                _,
+            ) => {
+                vec![(place(offset) == "elsewhere", "mask 0 elsewhere")]
+            }
+            _ => vec![],
+        };
+        cases
+            .into_iter()
+            .filter(|(so, _)| *so)
+            .map(|(_, name)| name)
+            .collect()
+    }
+}
+
+#[test]
+fn tmp_window_tally() {
+    let mut fewest: BTreeMap<String, usize> = BTreeMap::new();
+    for seed in 0..60 {
+        let mut tally: BTreeMap<String, usize> = BTreeMap::new();
+        for_each_event(seed, 10_000, Console, |event| {
+            for name in event.window_names() {
+                *tally.entry(name).or_default() += 1;
+            }
+        });
+        for (name, count) in &tally {
+            let f = fewest
+                .entry(name.clone())
+                .or_insert(if seed == 0 { *count } else { 0 });
+            *f = (*f).min(*count);
+        }
+        for (name, f) in fewest.iter_mut() {
+            if !tally.contains_key(name) {
+                *f = 0;
+            }
+        }
+        if seed == 0 {
+            println!("{tally:#?}");
+        }
+    }
+    println!("FEWEST {fewest:#?}");
 }
 
 // ---- wrong reads

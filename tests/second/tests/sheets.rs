@@ -367,6 +367,12 @@ fn the_function_reset_is_a_line_of_sheets_alone() {
         "O 0CF8 4 80001000",
         "I 0CF8 4",
         "S F000000C FFFFFFFF",
+        "V 00810C F 000F000F",
+        "U 00810C F",
+        "C 0000000F",
+        "F 000077FE",
+        "T 00000001",
+        "Y 1080C0 FFF00001 89ABCDEF",
     ] {
         assert_eq!(say(&ONE, &format!("{line}\n")), "NO 9\n", "{line:?}");
     }

@@ -1,5 +1,5 @@
 -- A space and the number behind it.
-use borrow.Author.Tests.{eq-eqb, ne-eqb}
+use Rattle.bits.proofs.Tests.{tests}
 use Rattle.calls.specs.Call.{fieldOf}
 use borrow.Author.Needs.{needs}
 use Rattle.calls.proofs.field.Statement.{statement}
@@ -10,7 +10,7 @@ shared-slice-read-if1 c = search needs
 
 returns : tie.Need-returns
 unfolding fieldOf
-returns c = rw (ne-eqb _ _ (c .if1 .taken))
+returns c = search tests
 
 add-number : tie.Need-add-number
 add-number c = search needs
@@ -20,7 +20,7 @@ number-requires c κs = search needs
 
 returns-2 : tie.Need-returns-2
 unfolding fieldOf
-returns-2 c = rw (c .number .ensures, eq-eqb _ _ (c .before .if1 .left))
+returns-2 c = search (tests, c .number .ensures)
 
 pub field-spec : {M : Type 1} → statement M
 field-spec =

@@ -1,6 +1,7 @@
 -- A line of two numbers: its length and its fields.
 use mathlib.Core.Path.{sym, _∙_}
-use borrow.Author.Tests.{eq-eqb, ne-eqb}
+use borrow.Author.Tests.{eq-eqb}
+use Rattle.bits.proofs.Tests.{tests}
 use Rattle.calls.specs.Call.{twoOf}
 use Rattle.calls.proofs.Fields.{field-fits}
 use borrow.Author.Needs.{needs}
@@ -15,7 +16,7 @@ add-if1-2 c = search needs
 
 returns : tie.Need-returns
 unfolding twoOf
-returns c = rw (ne-eqb _ _ (c .if1 .taken))
+returns c = search tests
 
 field-requires : tie.Need-field-requires
 field-requires c κs = search needs

@@ -9,7 +9,7 @@ use Rattle.console.proofs.main.Statement.{statement}
 use Rattle.console.proofs.main.Tie as tie
 
 abbrev Inv-loop : tie.InvT-loop
-Inv-loop buf₀ out₀ s₀ k₀ turns₀ buf out s k turns = (k ≤ 20) × (length buf ≡ 4116) × (length out ≡ 98784)
+Inv-loop buf₀ out₀ s₀ k₀ turns₀ buf out s k turns = (k ≤ 27) × (length buf ≡ 4123) × (length out ≡ 98952)
 
 abbrev μ-loop : tie.MeasureT-loop
 μ-loop buf₀ out₀ s₀ k₀ turns₀ buf out s k turns = turns

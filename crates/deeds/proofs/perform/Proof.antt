@@ -38,8 +38,8 @@ do-walk-requires c κs = search needs
 do-end-requires : tie.Need-do-end-requires
 do-end-requires c κs = search needs
 
-bad-requires : tie.Need-bad-requires
-bad-requires c κs = search needs
+perform-window-requires : tie.Need-perform-window-requires
+perform-window-requires c κs = search needs
 
 returns : tie.Need-returns
 unfolding doorOf
@@ -99,7 +99,7 @@ returns-12 c =
     let n2 = n3 .0 in
     let n1 = n2 .0 in
     let n0 = n1 .0 in
-    rw (ne-eqb _ _ (n0 .1), ne-eqb _ _ (n1 .1), ne-eqb _ _ (n2 .1), ne-eqb _ _ (n3 .1), ne-eqb _ _ (n4 .1), ne-eqb _ _ (n5 .1), ne-eqb _ _ (n6 .1), ne-eqb _ _ (n7 .1), ne-eqb _ _ (n8 .1), ne-eqb _ _ (n9 .1), ne-eqb _ _ (n10 .1)) (c .bad .ensures)
+    rw (ne-eqb _ _ (n0 .1), ne-eqb _ _ (n1 .1), ne-eqb _ _ (n2 .1), ne-eqb _ _ (n3 .1), ne-eqb _ _ (n4 .1), ne-eqb _ _ (n5 .1), ne-eqb _ _ (n6 .1), ne-eqb _ _ (n7 .1), ne-eqb _ _ (n8 .1), ne-eqb _ _ (n9 .1), ne-eqb _ _ (n10 .1)) (c .perform-window .ensures)
 
 pub perform-spec : {M : Type 1} → statement M
 perform-spec =
@@ -116,7 +116,7 @@ perform-spec =
     do-probe-requires
     do-walk-requires
     do-end-requires
-    bad-requires
+    perform-window-requires
     returns
     returns-2
     returns-3

@@ -60,7 +60,7 @@ returns-2 c =
     let a = c .before .before .before .before .before .before .before .before .before .before .before .before .before .before .before .before .before .args in
     let inside : t .result .at ≤ a .k + f .result = omega (arith, t .ensures .1 .0 .0, length-take-le (a .k + f .result) (f .last .0) (omega arith)) in
     let p = c .before .before .before .before .before .before .before .before .before .before .before .before .before .before .before .before .before .pre in
-    ((k .ensures .0, omega (arith, t .ensures .1 .0 .1, t .ensures .1 .1, p .2), omega (arith, k .ensures .1, f .ensures .1, p .1), omega (arith, t .ensures .1 .1, p .2)), one-turn lineNext lineSay 20 (a .s) (t .result .state) (a .buf .now) (f .last .0) (k .last .0) (take (t .result .filled) (t .last .1 .1 .0)) (a .k) (f .result) (t .result .at) (k .result) (f .ensures .2) (f .ensures .0) (t .ensures .0) inside (k .ensures .2) (k .ensures .3))
+    ((k .ensures .0, omega (arith, t .ensures .1 .0 .1, t .ensures .1 .1, p .2), omega (arith, k .ensures .1, f .ensures .1, p .1), omega (arith, t .ensures .1 .1, p .2)), one-turn lineNext lineSay 27 (a .s) (t .result .state) (a .buf .now) (f .last .0) (k .last .0) (take (t .result .filled) (t .last .1 .1 .0)) (a .k) (f .result) (t .result .at) (k .result) (f .ensures .2) (f .ensures .0) (t .ensures .0) inside (k .ensures .2) (k .ensures .3))
 
 pub turn-spec : {M : Type 1} → statement M
 turn-spec =

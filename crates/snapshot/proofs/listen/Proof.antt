@@ -7,7 +7,7 @@ use Rattle.snapshot.proofs.listen.Statement.{statement}
 use Rattle.snapshot.proofs.listen.Tie as tie
 
 abbrev Inv-loop : tie.InvT-loop
-Inv-loop buf₀ out₀ s₀ k₀ turns₀ buf out s k turns = (k ≤ 20) × (length buf ≡ 4116) × (length out ≡ 98784)
+Inv-loop buf₀ out₀ s₀ k₀ turns₀ buf out s k turns = (k ≤ 27) × (length buf ≡ 4123) × (length out ≡ 98952)
 
 abbrev μ-loop : tie.MeasureT-loop
 μ-loop buf₀ out₀ s₀ k₀ turns₀ buf out s k turns = turns

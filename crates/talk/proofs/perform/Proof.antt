@@ -1,5 +1,10 @@
 -- A call, by its case: what the entry says and leaves.
-use mathlib.Core.Path.{refl, ap, _∙_}
+use mathlib.Core.Path.{_≡_, refl, ap, _∙_}
+use mathlib.Core.List.{List}
+use Prim.Native.Nat.{ℕ}
+use Rattle.rules.specs.declared.State.{State}
+use Rattle.rules.specs.Answers.{reached}
+use Rattle.texts.specs.Text.{textOf}
 use Rattle.rules.specs.Access.{Outcome}
 use Rattle.play.specs.Player.{replyText, valueTextOf}
 use Rattle.talk.specs.Answers.{claimText, probeText, answerText}
@@ -7,6 +12,10 @@ use Rattle.talk.specs.Console.{callNext, callSay}
 use borrow.Author.Needs.{needs}
 use Rattle.talk.proofs.perform.Statement.{statement}
 use Rattle.talk.proofs.perform.Tie as tie
+
+-- what is said of an outcome p, and its state, where p is the rule's
+reached-is : (p o : Outcome) (a : List ℕ) (t : State) → (a ≡ replyText (p .reply)) × (t ≡ p .state) → p ≡ o → (a ≡ replyText (o .reply)) × (t ≡ o .state)
+reached-is p o a t h e = (h .0 ∙ ap (λ (x : Outcome). replyText (x .reply)) e, h .1 ∙ ap (λ (x : Outcome). x .state) e)
 
 enum-known-k : tie.Need-enum-known-k
 enum-known-k c = search needs
@@ -56,6 +65,57 @@ enum-known-k-7 c = search needs
 item-requires : tie.Need-item-requires
 item-requires c κs = search needs
 
+enum-known-k-8 : tie.Need-enum-known-k-8
+enum-known-k-8 c = search needs
+
+write-requires : tie.Need-write-requires
+write-requires c κs = search needs
+
+reach-requires : tie.Need-reach-requires
+reach-requires c κs = search needs
+
+enum-known-k-9 : tie.Need-enum-known-k-9
+enum-known-k-9 c = search needs
+
+read-requires : tie.Need-read-requires
+read-requires c κs = search needs
+
+window-read-said-requires : tie.Need-window-read-said-requires
+window-read-said-requires c κs = search needs
+
+enum-known-k-10 : tie.Need-enum-known-k-10
+enum-known-k-10 c = search needs
+
+complete-requires : tie.Need-complete-requires
+complete-requires c κs = search needs
+
+reach-requires-2 : tie.Need-reach-requires-2
+reach-requires-2 c κs = search needs
+
+enum-known-k-11 : tie.Need-enum-known-k-11
+enum-known-k-11 c = search needs
+
+fault-requires : tie.Need-fault-requires
+fault-requires c κs = search needs
+
+reach-requires-3 : tie.Need-reach-requires-3
+reach-requires-3 c κs = search needs
+
+enum-known-k-12 : tie.Need-enum-known-k-12
+enum-known-k-12 c = search needs
+
+add-cycles-requires : tie.Need-add-cycles-requires
+add-cycles-requires c κs = search needs
+
+enum-known-k-13 : tie.Need-enum-known-k-13
+enum-known-k-13 c = search needs
+
+mirror-update-requires : tie.Need-mirror-update-requires
+mirror-update-requires c κs = search needs
+
+reach-requires-4 : tie.Need-reach-requires-4
+reach-requires-4 c κs = search needs
+
 returns : tie.Need-returns
 unfolding answerText callNext callSay
 returns c = rw (c .before .before .before .k .given .1) (c .before .line .ensures .0, c .before .line .ensures .1)
@@ -84,6 +144,30 @@ returns-7 : tie.Need-returns-7
 unfolding answerText callNext callSay
 returns-7 c = rw (c .before .before .k7 .given .1) (c .item .ensures, refl)
 
+returns-8 : tie.Need-returns-8
+unfolding answerText callNext callSay
+returns-8 c = rw (c .before .before .before .k8 .given .1) (reached-is (reached (c .before .write .result)) _ _ _ (c .reach .ensures) (c .before .write .ensures))
+
+returns-9 : tie.Need-returns-9
+unfolding answerText callNext callSay
+returns-9 c = rw (c .before .before .before .k9 .given .1) (c .window-read-said .ensures ∙ ap valueTextOf (c .before .read .ensures), refl)
+
+returns-10 : tie.Need-returns-10
+unfolding answerText callNext callSay
+returns-10 c = rw (c .before .before .before .k10 .given .1) (reached-is (reached (c .before .complete .result)) _ _ _ (c .reach2 .ensures) (c .before .complete .ensures))
+
+returns-11 : tie.Need-returns-11
+unfolding answerText callNext callSay
+returns-11 c = rw (c .before .before .before .k11 .given .1) (reached-is (reached (c .before .fault .result)) _ _ _ (c .reach3 .ensures) (c .before .fault .ensures))
+
+returns-12 : tie.Need-returns-12
+unfolding answerText callNext callSay textOf
+returns-12 c = rw (c .before .before .k12 .given .1) (refl, c .add-cycles .ensures)
+
+returns-13 : tie.Need-returns-13
+unfolding answerText callNext callSay
+returns-13 c = rw (c .before .before .before .k13 .given .1) (reached-is (reached (c .before .mirror-update .result)) _ _ _ (c .reach4 .ensures) (c .before .mirror-update .ensures))
+
 pub perform-spec : {M : Type 1} → statement M
 perform-spec =
     tie.close
@@ -104,10 +188,33 @@ perform-spec =
     probe-requires
     enum-known-k-7
     item-requires
+    enum-known-k-8
+    write-requires
+    reach-requires
+    enum-known-k-9
+    read-requires
+    window-read-said-requires
+    enum-known-k-10
+    complete-requires
+    reach-requires-2
+    enum-known-k-11
+    fault-requires
+    reach-requires-3
+    enum-known-k-12
+    add-cycles-requires
+    enum-known-k-13
+    mirror-update-requires
+    reach-requires-4
     returns
     returns-2
     returns-3
     returns-4
     returns-5
     returns-6
-    returns-7)
+    returns-7
+    returns-8
+    returns-9
+    returns-10
+    returns-11
+    returns-12
+    returns-13)

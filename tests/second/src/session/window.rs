@@ -1,15 +1,20 @@
 //! Scenes of the window: changes of its registers by guest and host, accesses
 //! around them, and claims that lead to them.
 
+use std::collections::VecDeque;
+
 use super::{fewer_lanes, write, Session, Step};
 use crate::rng::Rng;
 use crate::window::Register;
 
 /// One change of a register in so many has a reset between it and the look.
-const CHANGES_TO_A_RESET: u64 = 10;
+const CHANGES_TO_A_RESET: u64 = 8;
+/// One look at a dword in so many has a read of fewer lanes behind it.
+const LOOKS_TO_FEWER_LANES: u64 = 6;
 
-/// Registers as often as a scene is about them.
-const SCENE_REGISTERS: &[Register] = &[
+/// The registers, those with more rules more often.
+const WEIGHTED_REGISTERS: &[Register] = &[
+    Register::FaultReg,
     Register::FaultReg,
     Register::FaultReg,
     Register::FaultReg,
@@ -23,10 +28,7 @@ const SCENE_REGISTERS: &[Register] = &[
     Register::CycleSum,
 ];
 /// Offsets on both sides of the window's ends.
-const EDGES: &[u32] = &[
-    0x00_0000, 0x00_0001, 0x3F_FFFC, 0x3F_FFFD, 0x3F_FFFF, 0x40_0000, 0x40_0004, 0xFF_FFFC,
-    0xFF_FFFF,
-];
+const EDGES: &[u32] = &[0x00_0000, 0x3F_FFFC, 0x3F_FFFF, 0x40_0000, 0xFF_FFFC];
 /// Lines near the window's, all of them refused: with numbers as short as the
 /// paper has them, as long as others are, too few or too many.
 pub(crate) const NEAR_WINDOW: &[&[u8]] = &[
@@ -60,42 +62,67 @@ pub(crate) const NEAR_WINDOW: &[&[u8]] = &[
 impl Session {
     pub(super) fn window_scene(&mut self) {
         match self.rng.below(20) {
-            0..=12 => self.changes_of_a_register(),
-            13..=16 => self.around_the_registers(),
+            0..=11 => self.changes_of_a_register(),
+            12..=16 => self.around_the_registers(),
             17..=18 => self.through_claims(),
-            _ => self.read_the_window(),
+            _ => self.read_by_all_lanes(),
         }
     }
 
     /// Changes of one register, each with a look at it, and now and then with
     /// a reset in between.
     fn changes_of_a_register(&mut self) {
-        let register = self.rng.pick(SCENE_REGISTERS);
-        for _ in 0..2 + self.rng.below(6) {
-            self.push_change(register);
+        let register = self.rng.pick(WEIGHTED_REGISTERS);
+        self.push_opening(register);
+        let changes_to_a_write = match register {
+            Register::FaultReg | Register::Assrreq => 2,
+            _ => 4,
+        };
+        for _ in 0..3 + self.rng.below(6) {
+            if self.rng.one_in(changes_to_a_write) {
+                self.push_guest_write(register.offset());
+            } else {
+                self.push_host_change(register);
+            }
             if self.rng.one_in(CHANGES_TO_A_RESET) {
-                let starts_reset = write(0xA8, 1, 1);
-                let reset = self.rng.pick(&[&starts_reset[..], &starts_reset[..], b"P"]);
-                self.push(reset.to_vec());
+                self.push_reset();
             }
             self.push_window_look(register.offset());
         }
+        if self.rng.one_in(4) {
+            self.read_all_registers();
+        }
     }
 
-    /// Accesses by the guest and updates by the host at any offset, and looks
-    /// at where they would go if offsets were rounded or wrapped.
+    /// Makes room for requests and for a fault, if the scene is about them.
+    fn push_opening(&mut self, register: Register) {
+        match register {
+            Register::Assrreq => self.push(complete(0xF)),
+            Register::FaultReg => self.push(window_write(register.offset(), 0xF, 0)),
+            _ => {}
+        }
+    }
+
+    /// A platform reset, or the start of a function reset, before which the
+    /// guest may leave the host something to do.
+    fn push_reset(&mut self) {
+        if self.rng.one_in(3) {
+            return self.push(b"P".to_vec());
+        }
+        match self.rng.below(4) {
+            0 | 1 => self.push(window_write(Register::Assrreq.offset(), 0xF, u32::MAX)),
+            2 => self.push(window_write(Register::FaultReg.offset(), 0xF, 0)),
+            _ => {}
+        }
+        self.push(write(0xA8, 0x1, 1));
+    }
+
+    /// Accesses at any offsets, and looks at where they may have gone.
     fn around_the_registers(&mut self) {
-        for _ in 0..2 + self.rng.below(4) {
-            let offset = offset(&mut self.rng);
-            match self.rng.below(3) {
-                0 => self.push_guest_write(offset),
-                1 => self.push_mirror_update(offset),
-                _ => {
-                    let lanes = self.read_lanes();
-                    self.push(window_read(offset, lanes));
-                }
+        for _ in 0..3 + self.rng.below(5) {
+            if let Some(dword) = self.push_access_anywhere() {
+                self.push_window_look(dword);
             }
-            self.push_window_look(within(offset));
         }
     }
 
@@ -103,7 +130,7 @@ impl Session {
     /// registers lie, each with the access that it leads to.
     fn through_claims(&mut self) {
         self.set_up_windows();
-        for _ in 0..2 + self.rng.below(4) {
+        for _ in 0..3 + self.rng.below(4) {
             let register = self.rng.pick(&Register::ALL);
             self.steps.push_back(Step::InTranslation(register.offset()));
             if self.rng.one_in(2) {
@@ -113,127 +140,130 @@ impl Session {
         }
     }
 
-    /// All registers by the same lanes, or one of them by all lanes.
-    fn read_the_window(&mut self) {
-        if self.rng.one_in(2) {
-            let lanes = self.read_lanes();
-            for register in Register::ALL {
-                self.push(window_read(register.offset(), lanes));
-            }
-        } else {
-            let register = self.rng.pick(&Register::ALL);
-            for lanes in 0..16 {
-                self.push(window_read(register.offset(), lanes));
-            }
+    fn read_all_registers(&mut self) {
+        for register in Register::ALL {
+            self.push(window_read(register.offset(), 0xF));
+        }
+    }
+
+    fn read_by_all_lanes(&mut self) {
+        let register = self.telling_register();
+        for lanes in 0..16 {
+            self.push(window_read(register.offset(), lanes));
         }
     }
 }
 
-/// Changes.
+/// Busy phases.
 impl Session {
-    /// What may change a register, or might be thought to, by the guest or by
-    /// the host.
-    fn push_change(&mut self, register: Register) {
-        let changes_to_a_write = match register {
-            Register::CycleSum => 4,
-            _ => 2,
-        };
-        if self.rng.one_in(changes_to_a_write) {
-            return self.push_guest_write(register.offset());
-        }
-        match register {
-            Register::FaultReg => self.push_fault(),
-            Register::Assrreq => self.push_completion(),
-            Register::Mtouud | Register::MtouudHigh | Register::Mbdsm => {
-                self.push_mirror_update(register.offset());
+    /// Accesses while busy, the end signal, and a look at where they may have
+    /// gone.
+    pub(super) fn busy_window(&mut self) {
+        let dwords: Vec<u32> = (0..2 + self.rng.below(8))
+            .filter_map(|_| self.busy_window_access())
+            .collect();
+        self.push_end_signal();
+        for (index, dword) in dwords.iter().enumerate() {
+            if !dwords[..index].contains(dword) {
+                self.push_window_look(*dword);
             }
-            Register::CycleSum => self.steps.push_back(Step::Cycles),
         }
     }
 
-    /// A change of any register or a read, and the register's offset.
-    pub(super) fn push_any_access(&mut self) -> u32 {
-        let register = self.rng.pick(&Register::ALL);
-        if self.rng.one_in(3) {
-            let lanes = self.read_lanes();
-            self.push(window_read(register.offset(), lanes));
-        } else {
-            self.push_change(register);
+    /// An access while busy, and its dword if it may change something.
+    fn busy_window_access(&mut self) -> Option<u32> {
+        let register = self.rng.pick(WEIGHTED_REGISTERS);
+        match self.rng.below(9) {
+            0..=1 => self.push_guest_write(register.offset()),
+            2..=5 => self.push_host_change(register),
+            _ => return self.push_access_anywhere(),
         }
-        register.offset()
+        Some(register.offset())
+    }
+}
+
+/// Accesses.
+impl Session {
+    /// A register that holds something, if there is one, or any.
+    fn telling_register(&mut self) -> Register {
+        let held = self.twin.record().window;
+        let telling: Vec<Register> = Register::ALL
+            .into_iter()
+            .filter(|register| held[*register as usize] != 0)
+            .collect();
+        if telling.is_empty() || self.rng.one_in(3) {
+            self.rng.pick(&Register::ALL)
+        } else {
+            self.rng.pick(&telling)
+        }
+    }
+
+    /// An access by the guest or an update by the host at any offset, and the
+    /// dword that it changes if offsets are rounded and wrapped.
+    fn push_access_anywhere(&mut self) -> Option<u32> {
+        let register = self.telling_register();
+        let offset = offset_near(&mut self.rng, register);
+        match self.rng.below(3) {
+            0 => self.push_guest_write(offset),
+            1 => self.push_mirror_update(offset),
+            _ => {
+                let lanes = self.read_lanes();
+                self.push(window_read(offset, lanes));
+                return None;
+            }
+        }
+        Some(within(offset))
+    }
+
+    /// A guest read of a whole dword, and now and then one of fewer lanes.
+    fn push_window_look(&mut self, offset: u32) {
+        self.push(window_read(offset, 0xF));
+        if self.rng.one_in(LOOKS_TO_FEWER_LANES) {
+            let lanes = fewer_lanes(&mut self.rng);
+            self.push(window_read(offset, lanes));
+        }
     }
 
     /// A guest write of a kind that tells something at the register there.
     fn push_guest_write(&mut self, offset: u32) {
-        match Register::at(within(offset)) {
-            Some(Register::Assrreq) => self.push_request(offset),
-            Some(Register::FaultReg) => self.push_clear(offset),
-            _ => {
-                let (lanes, value) = (self.lanes(), self.rng.telling_dword());
-                self.push(window_write(offset, lanes, value));
+        let (lanes, value) = match Register::at(within(offset)) {
+            Some(Register::Assrreq) => request(&mut self.rng),
+            Some(Register::FaultReg) => clear(&mut self.rng),
+            _ => (self.lanes(), self.rng.telling_dword()),
+        };
+        self.push(window_write(offset, lanes, value));
+    }
+
+    /// What the host may do to a register, or might be thought to.
+    fn push_host_change(&mut self, register: Register) {
+        let (some, one) = (self.rng.below(16) as u32, 1 << self.rng.below(32));
+        match register {
+            _ if self.rng.one_in(5) => self.push_mirror_update(register.offset()),
+            Register::FaultReg => {
+                let word = fault_word(&mut self.rng);
+                self.push(fault(word));
+            }
+            Register::Assrreq => {
+                let mask = self.rng.pick(&[some, some, 0xF, some | one]);
+                self.push(complete(mask));
+            }
+            Register::CycleSum => self.steps.push_back(Step::Cycles),
+            Register::Mtouud | Register::MtouudHigh | Register::Mbdsm => {
+                self.push_mirror_update(register.offset());
             }
         }
     }
 
-    /// Requests with right and wrong mask bits, and with lanes on and off.
-    fn push_request(&mut self, offset: u32) {
-        let requests = self.rng.below(16) as u32;
-        let (some, any) = (self.rng.below(16) as u32, self.rng.telling_dword());
-        let mask = self.rng.pick(&[requests, requests, 0xF, 0, some]);
-        let bits = requests | mask << 16;
-        let with_others = bits | any & 0xFFF0_FFF0;
-        let value = self.rng.pick(&[bits, bits, with_others, any]);
-        let lanes = self.rng.below(16) as u32;
-        let lanes = self.rng.pick(&[
-            0xF,
-            0xF,
-            0x5,
-            lanes | 0x5,
-            lanes,
-            lanes & !0x1 | 0x4,
-            lanes & !0x4 | 0x1,
-        ]);
-        self.push(window_write(offset, lanes, value));
-    }
-
-    /// The valid bit written with a zero or a one, and with its lane on or off.
-    fn push_clear(&mut self, offset: u32) {
-        let any = self.rng.telling_dword();
-        let value = self.rng.pick(&[0, any & !1, any & !1, any | 1, u32::MAX]);
-        let lanes = self.rng.below(16) as u32;
-        let lanes = self.rng.pick(&[0xF, 0x1, lanes | 0x1, lanes & !0x1, 0xE]);
-        self.push(window_write(offset, lanes, value));
-    }
-
-    fn push_completion(&mut self) {
-        let some = self.rng.below(16) as u32;
-        let (one, any) = (1 << self.rng.below(32), self.rng.telling_dword());
-        let mask = self
-            .rng
-            .pick(&[some, some, some, some, 0xF, some | one, one, any]);
-        self.push(complete(mask));
-    }
-
-    fn push_fault(&mut self) {
-        let some = self.rng.dword() & 0x77FE;
-        let (one, any) = (1 << self.rng.below(32), self.rng.telling_dword());
-        let word = self
-            .rng
-            .pick(&[some, some, some, some, 0, 0x77FE, some | one, one, any]);
-        self.push(fault(word));
-    }
-
-    /// An update with a mask inside or outside the one of the mirror there.
+    /// An update with a mask inside or outside the one of the register there.
     fn push_mirror_update(&mut self, offset: u32) {
         let bits = Register::at(within(offset)).map_or(0, Register::update_mask);
         let (some, one) = (self.rng.dword(), 1 << self.rng.below(32));
-        let mask = match self.rng.below(10) {
-            0 => 0,
-            1 => u32::MAX,
-            2 => some,
-            3 => one,
-            4 => bits | one,
-            5 | 6 => bits,
+        let mask = match (bits, self.rng.below(9)) {
+            (_, 0) => 0,
+            (_, 1) => some,
+            (_, 2) => bits | one,
+            (0, 3..=5) => one,
+            (_, 3..=5) => bits,
             _ => bits & some,
         };
         let value = self.rng.telling_dword();
@@ -247,18 +277,46 @@ impl Session {
         let any = self.rng.telling_dword();
         let count = self
             .rng
-            .pick(&[!sum, (!sum).wrapping_add(1), any, any, 1, 0, u32::MAX]);
+            .pick(&[!sum, (!sum).wrapping_add(1), any, any, 1, u32::MAX]);
         add_cycles(count)
     }
+}
 
-    /// A guest read of a whole dword, and now and then one of fewer lanes.
-    pub(super) fn push_window_look(&mut self, offset: u32) {
-        self.push(window_read(offset, 0xF));
-        if self.rng.one_in(super::LOOKS_TO_FEWER_LANES) {
-            let lanes = fewer_lanes(&mut self.rng);
-            self.push(window_read(offset, lanes));
-        }
+/// Lanes and value of a write to ASSRREQ: right requests, requests without
+/// their mask bits, zeros over requests, requests with a lane off, or any.
+fn request(rng: &mut Rng) -> (u32, u32) {
+    let requests = 1 + rng.below(15) as u32;
+    let (lanes, any) = (rng.below(16) as u32, rng.telling_dword());
+    let right = requests | requests << 16;
+    let others = rng.pick(&[0, any & 0xFFF0_FFF0]);
+    match rng.below(8) {
+        0 => (0xF, right | others),
+        1 => (lanes | 0x5, right | others),
+        2 => (lanes | 0x5, requests | (requests ^ 0xF) << 16 | others),
+        3 => (lanes | 0x5, requests | 0x000F_0000 | others),
+        4 | 5 => (lanes & !0x4 | 0x1, right | others),
+        6 => (lanes & !0x1 | 0x4, right | others),
+        _ => (lanes, any),
     }
+}
+
+/// Lanes and value of a write to FAULT_REG: a clear, by its lane alone too,
+/// one with its lane off, or one with a one.
+fn clear(rng: &mut Rng) -> (u32, u32) {
+    let (lanes, any) = (rng.below(16) as u32, rng.telling_dword());
+    match rng.below(7) {
+        0 | 1 => (lanes & !0x2 | 0x1, any & !1),
+        2 => (lanes | 0x1, any & !1),
+        3 | 4 => (lanes & !0x1, any & !1),
+        _ => (lanes | 0x1, any | 1),
+    }
+}
+
+/// A fault word, good or with a bit that it may not have.
+fn fault_word(rng: &mut Rng) -> u32 {
+    let some = rng.dword() & 0x77FE;
+    let (one, any) = (1 << rng.below(32), rng.telling_dword());
+    rng.pick(&[some, some, some, 0, 0, 0x77FE, some | 1, some | one, any])
 }
 
 /// The dword of the window to which an offset goes if it is rounded and wrapped.
@@ -266,25 +324,25 @@ fn within(offset: u32) -> u32 {
     offset & 0x3F_FFFC
 }
 
-/// A register's offset, one near it or far from it, inside or outside the
+/// The register's offset, one near it or far from it, inside or outside the
 /// window, aligned or not.
-fn offset(rng: &mut Rng) -> u32 {
-    let register = rng.pick(&Register::ALL).offset();
-    match rng.below(9) {
-        0 | 1 => register,
-        2 => register + 1 + rng.below(3) as u32,
-        3 => rng.pick(&[register - 4, register + 4]),
-        4 => register ^ 1 << rng.below(24),
-        5 => register | rng.pick(&[0x40_0000, 0x80_0000, 0xC0_0000]),
-        6 => rng.pick(EDGES),
-        7 => rng.dword() & 0x3F_FFFC,
+fn offset_near(rng: &mut Rng, register: Register) -> u32 {
+    let register = register.offset();
+    match rng.below(13) {
+        0 => register,
+        1 | 2 => register + 1 + rng.below(3) as u32,
+        3 | 4 => rng.pick(&[register - 4, register + 4]),
+        5 => register ^ 1 << rng.below(24),
+        6..=8 => register ^ 1 << (16 + rng.below(8)),
+        9..=11 => rng.pick(EDGES),
         _ => rng.dword() & 0xFF_FFFF,
     }
 }
 
 /// A line of any of the window's forms, outside any scene.
 pub(crate) fn stray_window_line(rng: &mut Rng) -> Vec<u8> {
-    let offset = offset(rng);
+    let register = rng.pick(&Register::ALL);
+    let offset = offset_near(rng, register);
     match rng.below(8) {
         0 | 1 => window_write(offset, rng.below(16) as u32, rng.telling_dword()),
         2 | 3 => window_read(offset, rng.below(16) as u32),
@@ -293,6 +351,11 @@ pub(crate) fn stray_window_line(rng: &mut Rng) -> Vec<u8> {
         6 => add_cycles(rng.telling_dword()),
         _ => mirror_update(offset, rng.telling_dword(), rng.telling_dword()),
     }
+}
+
+/// Whether a scene goes on with a read in the window.
+pub(super) fn goes_on_in_window(rest: &VecDeque<Step>) -> bool {
+    matches!(rest.front(), Some(Step::Line(line)) if line.starts_with(b"U "))
 }
 
 fn window_write(offset: u32, lanes: u32, value: u32) -> Vec<u8> {

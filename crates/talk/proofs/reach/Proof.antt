@@ -1,0 +1,16 @@
+-- What is said of a change in the window, and its state.
+use mathlib.Core.Path.{refl}
+use Rattle.talk.specs.Answers.{answerText}
+use borrow.Author.Needs.{needs}
+use Rattle.talk.proofs.reach.Statement.{statement}
+use Rattle.talk.proofs.reach.Tie as tie
+
+window-said-requires : tie.Need-window-said-requires
+window-said-requires c κs = search needs
+
+returns : tie.Need-returns
+unfolding answerText
+returns c = (c .window-said .ensures, refl)
+
+pub reach-spec : {M : Type 1} → statement M
+reach-spec = tie.close (tie.spec window-said-requires returns)
