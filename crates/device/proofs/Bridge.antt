@@ -3,7 +3,6 @@ use mathlib.Core.Path.{_≡_, refl}
 use mathlib.Core.List.{List}
 use mathlib.Core.Bool.{Bool, true, false}
 use Prim.Native.Nat.{ℕ, _+_, _/_, _%_, _^_, _<_}
-use native.Mathlib.Omega.{arith}
 use native.Mathlib.Nat.{add-zero}
 use lib.ListN.{length, getD}
 use Rattle.bits.specs.Bits.{bit}
@@ -12,9 +11,9 @@ use Rattle.answer.specs.Refusals.{ok, no, OFFSET, LANES}
 use Rattle.rules.specs.Access.{badOffset, badLanes}
 use Rattle.rules.specs.Plain.{held, under, shownValue, writtenBit}
 use Rattle.rules.proofs.Access.{good-offset}
-use Rattle.plain.specs.Bytes.{drivenOf, storedOf}
+use Rattle.plain.specs.Bytes.{drivenOf}
 use Rattle.plain.proofs.Bridge.{joined-bit, driven-is, reply-is, stored-is, returned-is}
-use Rattle.updates.specs.Update.{Lent, lent, updateBytes}
+use Rattle.updates.specs.Update.{lent, updateBytes}
 use Rattle.updates.proofs.Bridge.{update-by}
 use Rattle.plain.specs.Bytes.{returnedOf}
 use Rattle.device.specs.Device.{made, readOf, writeOf, hostOf, functionResetOf}

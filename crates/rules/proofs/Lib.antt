@@ -16,3 +16,4 @@ pub mod Aligned
 pub mod WindowRuns
 pub mod Demand3
 pub mod Witness
+pub mod WindowWitness

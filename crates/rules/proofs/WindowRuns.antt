@@ -9,8 +9,8 @@ use lib.Dec.{T, eqb, ltb, eqb→eq}
 use borrow.Author.Tests.{eq-eqb, le-ltb}
 use Rattle.bits.specs.Bits.{bit, numberOf}
 use Rattle.bits.specs.Choice.{pick, both, either, allBelow}
-use Rattle.bits.proofs.Laws.{number-ext, bit-number, bit<2, bit-zero, number<}
-use Rattle.bits.proofs.Below.{pick-has, either-left, either-right, below, is-true, both-left, both-right}
+use Rattle.bits.proofs.Laws.{number-ext, bit-number, bit<2, bit-zero}
+use Rattle.bits.proofs.Below.{pick-has, either-left, either-right, below, is-true}
 use Rattle.answer.specs.Refusals.{ok, LANES, NOT-HOST, WINDOW-OFFSET}
 use Rattle.map.specs.Registers.{PCICMD2, MSAC}
 use Rattle.rules.specs.declared.State.{State}

@@ -1,12 +1,12 @@
 -- The dwords that the code makes are the rule's, bit by bit.
 use mathlib.Core.Path.{_≡_, refl, sym, ap, subst, _∙_}
 use mathlib.Core.Bool.{Bool, true, false, not}
-use Prim.Native.Nat.{ℕ, _+_, _*_, _/_, _%_, _^_, _<_}
+use Prim.Native.Nat.{ℕ, _+_, _/_, _%_, _^_, _<_}
 use native.Mathlib.Omega.{arith}
 use native.Mathlib.Nat.{div-one}
 use lib.Pow.{shr-shr}
 use lib.Dec.{T, eqb, ltb, eqb→eq}
-use borrow.Author.Tests.{lt-ltb, le-ltb, ltb-true, ltb-false}
+use borrow.Author.Tests.{lt-ltb, le-ltb, ltb-true}
 use Rattle.bits.specs.Bits.{bit, numberOf, blendK}
 use Rattle.bits.specs.Choice.{pick, both, allBelow}
 use Rattle.bits.proofs.Laws.{number-ext, number-none, number-bits, number-mod, number-split, bit-number, bit<2, bit-zero, blend-bit, blend-each, pick-bit}

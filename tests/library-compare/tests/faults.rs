@@ -816,7 +816,7 @@ fn bits_outside_the_masks_that_are_not_refused() {
 fn a_mask_of_0_that_is_refused_where_no_mirror_is() {
     found_by_both(&answered_otherwise(|_, call, answer| match call {
         Call::Do(16, offset, 0, _) if !refused(answer) => {
-            let mirror = Register::at(*offset).is_some_and(|named| MIRRORS.contains(&named));
+            let mirror = Register::at(*offset).map_or(false, |named| MIRRORS.contains(&named));
             (!mirror).then_some(7 << 48)
         }
         _ => None,
@@ -867,7 +867,7 @@ fn an_unaligned_window_offset_that_is_rounded() {
 
 #[test]
 fn an_offset_of_which_a_bit_does_not_count() {
-    for place in 2..22 {
+    for place in [2, 8, 15, 21] {
         let library = |lent: &mut Lent, call: &mut Call| match *call {
             Call::Do(12, offset, lanes, c) if Register::at(offset).is_none() => {
                 let beside = Register::at(offset ^ 1 << place).map_or(offset, Register::offset);

@@ -4,12 +4,12 @@
 //! lines alone, so that a misreading of the paper shows when its answers are
 //! compared with those of the proved program. It shares no code with it and
 //! keeps its state in another way: one class and one value for each of the
-//! 2,048 bits, a flag for each write-once field, the latch, and whether a
-//! function reset is under way.
+//! 2,048 bits, a flag for each write-once field, the latch, whether a function
+//! reset is under way, and one value for each bit of the window's registers.
 //!
-//! Register sheets, the time that a function reset takes and what undriven
-//! lanes read are from paper `02-change-requests.md`, W-201, W-202 and W-206,
-//! alone.
+//! Register sheets, the time that a function reset takes, what undriven lanes
+//! read and the Broadwell window are from paper `02-change-requests.md`, W-201,
+//! W-202, W-206 and W-207, alone.
 //!
 //! Binaries:
 //!

@@ -4,8 +4,8 @@
 //! paper, with platform resets, end signals and spoiled lines strewn in between.
 //! A scene in which a function reset starts waits until a busy phase of some
 //! lines is over. The maker keeps a twin of its own, but only to know when it is
-//! busy, has open fields or holds something in the window, and to aim its claims
-//! and its cycle counts at the bases and the sum as they stand.
+//! busy and has open fields, and to aim at the bases and at what the window holds
+//! as they stand.
 
 mod window;
 
@@ -17,6 +17,7 @@ use crate::malform::spoil;
 use crate::map;
 use crate::rng::Rng;
 use crate::twin::Twin;
+use crate::window::Register;
 
 use window::goes_on_in_window;
 pub(crate) use window::{stray_window_line, NEAR_WINDOW};
@@ -70,10 +71,12 @@ enum Step {
     NearMemoryBase,
     /// A claim near the I/O base as it will stand by then.
     NearIoBase,
-    /// A claim of GTTMMADR's base, as it will stand by then, and an offset.
+    /// A claim of the address so far from GTTMMADR's base as it will stand by then.
     InTranslation(u32),
-    /// An addition to the cycle sum as it will stand by then.
-    Cycles,
+    /// A guest's write in the window as it will stand by then.
+    WindowWrite(u32),
+    /// What the host does to a register of the window as it will stand by then.
+    HostChange(Register),
 }
 
 /// A session in the making.
@@ -160,7 +163,8 @@ impl Session {
                 Some(Step::InTranslation(offset)) => {
                     return claim_memory(self.twin.translation_base() + u64::from(offset));
                 }
-                Some(Step::Cycles) => return self.cycles(),
+                Some(Step::WindowWrite(offset)) => return self.window_write_line(offset),
+                Some(Step::HostChange(register)) => return self.host_change_line(register),
                 None => self.scene(),
             }
         }
@@ -260,9 +264,9 @@ impl Session {
 impl Session {
     fn scene(&mut self) {
         if self.mode == Mode::Console {
-            match self.rng.below(16) {
-                0..=5 => return self.console_scene(),
-                6..=8 => return self.window_scene(),
+            match self.rng.below(33) {
+                0..=11 => return self.console_scene(),
+                12..=18 => return self.window_scene(),
                 _ => {}
             }
         }
@@ -273,7 +277,8 @@ impl Session {
             24..=27 => self.power(),
             28..=31 => self.capability_list(),
             32..=39 => self.host_updates(),
-            40..=44 => self.some_reads(),
+            40..=43 => self.some_reads(),
+            44 => self.reads_by_all_lanes(),
             45..=47 => self.unaligned(),
             48 => self.read_everything(),
             49..=52 => self.host_sweep(),
@@ -286,8 +291,8 @@ impl Session {
             0..=11 => self.latch_and_data(),
             12..=17 => self.ports_around(),
             18..=27 => self.claims(),
-            28..=32 => self.probes(),
-            33..=36 => self.walks(),
+            28..=33 => self.probes(),
+            34..=37 => self.walks(),
             _ => self.size_probe_of_a_base(),
         }
     }
@@ -455,6 +460,13 @@ impl Session {
         }
     }
 
+    fn reads_by_all_lanes(&mut self) {
+        let offset = aligned(&mut self.rng);
+        for lanes in 0..16 {
+            self.push(read(offset, lanes));
+        }
+    }
+
     fn some_writes(&mut self) {
         for _ in 0..1 + self.rng.below(4) {
             let offset = if self.rng.one_in(2) {
@@ -588,10 +600,10 @@ impl Session {
 
     fn busy_console_access(&mut self) {
         match self.rng.below(16) {
-            0..=6 => self.steps.push_back(Step::NearMemoryBase),
-            7 => self.steps.push_back(Step::NearIoBase),
-            8 | 9 => self.walks(),
-            10..=12 => self.latch_and_data(),
+            0..=7 => self.steps.push_back(Step::NearMemoryBase),
+            8 => self.steps.push_back(Step::NearIoBase),
+            9 | 10 => self.walks(),
+            11 | 12 => self.latch_and_data(),
             13 => self.push(port_read(0x0CF8, 4)),
             14 => self.ports_around(),
             _ => self.probes(),

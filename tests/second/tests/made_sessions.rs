@@ -61,7 +61,7 @@ fn every_answer_of_the_player_happens() {
         );
     }
     for start in [
-        "NO 2", "NO 3", "NO 4", "NO 8", "NO 10", "NO 11", "OK I", "OK T", "OK N",
+        "NO 2", "NO 3", "NO 4", "NO 8", "NO 10", "NO 11", "NO 16", "OK I", "OK T", "OK N",
     ] {
         assert_eq!(count(&said, start), 0, "{start}");
     }
@@ -80,6 +80,7 @@ fn every_answer_of_the_console_happens() {
         "NO 7",
         "NO 8",
         "NO 9",
+        "NO 16",
         "OK TRANSLATION",
         "OK APERTURE",
         "OK IO 000000",
@@ -119,6 +120,15 @@ fn every_kind_of_odd_line_happens() {
     assert!(some(&|line| line == b"E\n") > 300);
     for near in ["E \n", " E\n", "e\n", "EE\n", "E 00\n"] {
         assert!(some(&|line| line == near.as_bytes()) > 10, "{near:?}");
+    }
+    for near in [
+        "U 0810C F\n",
+        "C F\n",
+        "F 77FE\n",
+        "T 1\n",
+        "Y 1080C0 01 01\n",
+    ] {
+        assert!(some(&|line| line == near.as_bytes()) > 5, "{near:?}");
     }
 }
 
@@ -378,17 +388,26 @@ fn reads_of_less_than_a_dword_in_the_console() {
 fn every_session_reads_by_all_lanes() {
     for mode in [Player, Console] {
         for seed in 0..5 {
-            let mut reads = [0; 16];
+            let (mut reads, mut in_the_window) = ([0; 16], [0; 16]);
             for_each_event(seed, 10_000, mode, |event| {
-                if let (Some(Command::Read { lanes, .. }), Answer::Value(_)) =
-                    (event.command, event.said)
-                {
-                    reads[lanes as usize] += 1;
+                match (event.command, event.said) {
+                    (Some(Command::Read { lanes, .. }), Answer::Value(_)) => {
+                        reads[lanes as usize] += 1;
+                    }
+                    (Some(Command::WindowRead { lanes, .. }), Answer::Value(_)) => {
+                        in_the_window[lanes as usize] += 1;
+                    }
+                    _ => {}
                 }
             });
             assert!(
                 reads.iter().all(|count| *count >= 10),
                 "{mode:?}, seed {seed}: {reads:?}"
+            );
+            let fewest = if mode == Console { 5 } else { 0 };
+            assert!(
+                in_the_window.iter().all(|count| *count >= fewest),
+                "{mode:?}, seed {seed}: {in_the_window:?}"
             );
         }
     }
@@ -396,7 +415,7 @@ fn every_session_reads_by_all_lanes() {
 
 // ---- the window
 
-/// What lies at an offset in the window.
+/// What lies at an offset of the window.
 fn place(offset: u32) -> &'static str {
     match offset {
         FAULT_REG => "FAULT_REG",
@@ -411,162 +430,90 @@ fn place(offset: u32) -> &'static str {
     }
 }
 
-/// The bits of the enabled lanes in which a value differs from what is held.
-fn differs(held: u32, lanes: u32, value: u32) -> bool {
-    (held ^ value) & !UNDRIVEN[lanes as usize] != 0
+/// Whether a command is one of the window's.
+fn is_of_the_window(command: Command) -> bool {
+    use Command::*;
+    matches!(
+        command,
+        WindowWrite { .. }
+            | WindowRead { .. }
+            | Complete { .. }
+            | Fault { .. }
+            | AddCycles { .. }
+            | MirrorUpdate { .. }
+    )
 }
 
 impl Event {
-    /// What it counts as, if it has to do with the window: what is done where,
-    /// whether it finds the function busy, and what comes of it.
+    /// What it counts as, if it has to do with the window.
     fn window_names(&self) -> Vec<String> {
+        let mut names: Vec<String> = self.deed().into_iter().collect();
+        if !self.before.is_busy() {
+            names.extend(self.near_misses().into_iter().map(str::to_string));
+        }
+        names
+    }
+
+    /// What is done, where unless the function is busy, and what comes of it.
+    fn deed(&self) -> Option<String> {
         use Command::*;
-        let name = match self.command {
-            Some(WindowRead { offset, .. }) => format!("read {}", place(offset)),
-            Some(WindowWrite { offset, .. }) => format!("write {}", place(offset)),
-            Some(MirrorUpdate { offset, .. }) => format!("update {}", place(offset)),
-            Some(Complete { .. }) => "completion".to_string(),
-            Some(Fault { .. }) => "fault".to_string(),
-            Some(AddCycles { .. }) => "cycles".to_string(),
-            Some(PlatformReset) => "platform reset".to_string(),
-            Some(End) if self.holds_all_it_held() => "end, all kept".to_string(),
-            _ if self.starts() && self.holds_all_it_held() => "start, all kept".to_string(),
-            _ => return vec![],
+        let (form, offset) = match self.command? {
+            WindowRead { offset, .. } => ("read", Some(offset)),
+            WindowWrite { offset, .. } => ("write", Some(offset)),
+            MirrorUpdate { offset, .. } => ("update", Some(offset)),
+            Complete { .. } => ("completion", None),
+            Fault { .. } => ("fault", None),
+            AddCycles { .. } => ("cycles", None),
+            PlatformReset => ("platform reset", None),
+            End if self.keeps_something() => ("end, window kept", None),
+            _ if self.starts() && self.keeps_something() => ("start, window kept", None),
+            _ => return None,
         };
-        let busy = if self.before.is_busy() { ", busy" } else { "" };
-        let name = format!("{name}{busy}{}", self.outcome());
-        let near_misses = self.near_misses();
-        near_misses
-            .into_iter()
-            .map(str::to_string)
-            .chain([name])
-            .collect()
-    }
-
-    fn starts(&self) -> bool {
-        self.after.is_busy() && !self.before.is_busy()
-    }
-
-    /// Whether something is held in the window and the line leaves it.
-    fn holds_all_it_held(&self) -> bool {
-        let held = self.before.record().window;
-        held != [0; 6] && self.after.record().window == held
+        let outcome = self.outcome();
+        Some(match offset {
+            _ if self.before.is_busy() => format!("busy {form}{outcome}"),
+            Some(offset) => format!("{form} {}{outcome}", place(offset)),
+            None => format!("{form}{outcome}"),
+        })
     }
 
     /// What comes of it for the window.
     fn outcome(&self) -> &'static str {
-        let window = self.before.record().window;
+        let held = self.before.record().window;
         if matches!(self.said, Answer::Refused(_)) {
             ", refused"
-        } else if self.after.record().window != window {
+        } else if self.after.record().window != held {
             ", changed"
-        } else if self.otherwise.record().window != window {
+        } else if self.otherwise.record().window != held {
             ", dropped"
         } else {
             ""
         }
     }
 
-    /// What a plausible slip would make of it, if the function isn't busy.
+    /// Whether a function reset starts with it.
+    fn starts(&self) -> bool {
+        self.after.is_busy() && !self.before.is_busy()
+    }
+
+    /// Whether the window holds something and the line leaves it so.
+    fn keeps_something(&self) -> bool {
+        let held = self.before.record().window;
+        held != [0; 6] && self.after.record().window == held
+    }
+
+    /// What a plausible slip would make of it.
     fn near_misses(&self) -> Vec<&'static str> {
         use Command::*;
-        let [fault, requests, mtouud, high, mbdsm, sum] = self.before.record().window;
-        let held = match self.command {
-            Some(WindowWrite { offset, .. }) => match offset {
-                MTOUUD => mtouud,
-                MTOUUD_HIGH => high,
-                MBDSM => mbdsm,
-                _ => sum,
-            },
-            _ => 0,
-        };
-        let cases: Vec<(bool, &'static str)> = match (self.command, self.said) {
-            _ if self.before.is_busy() => vec![],
-            (
-                Some(WindowWrite {
-                    offset: ASSRREQ,
-                    lanes,
-                    value,
-                }),
-                _,
-            ) => {
-                let (ones, mask) = (value & 0xF, value >> 16 & 0xF);
-                let new = ones & mask & !requests != 0;
-                vec![
-                    (
-                        lanes & 5 == 5 && ones & !mask & !requests != 0,
-                        "request, no mask bit",
-                    ),
-                    (lanes & 5 == 1 && new, "request, mask's lane off"),
-                    (lanes & 5 == 4 && new, "request, own lane off"),
-                    (
-                        lanes & 5 == 5 && !ones & mask & requests != 0,
-                        "zero over a request",
-                    ),
-                    (
-                        lanes == 15 && value & value >> 16 & 0xFFF0 != 0,
-                        "request above bit 3",
-                    ),
-                ]
-            }
-            (
-                Some(WindowWrite {
-                    offset: FAULT_REG,
-                    lanes,
-                    value,
-                }),
-                _,
-            ) => vec![
-                (
-                    fault != 0 && lanes & 1 == 0 && value & 1 == 0,
-                    "clear, lane off",
-                ),
-                (
-                    fault != 0 && lanes & 1 == 1 && value & 1 == 1,
-                    "clear by a one",
-                ),
-                (
-                    fault > 0xFF && lanes & 3 == 1 && value & 1 == 0,
-                    "clear by its lane alone",
-                ),
-            ],
-            (
-                Some(WindowWrite {
-                    offset: MTOUUD | MTOUUD_HIGH | MBDSM,
-                    lanes,
-                    value,
-                }),
-                _,
-            ) => vec![(differs(held, lanes, value), "write over a mirror")],
-            (
-                Some(WindowWrite {
-                    offset: CYCLE_SUM,
-                    lanes,
-                    value,
-                }),
-                _,
-            ) => vec![(differs(held, lanes, value), "write over the sum")],
-            (Some(Fault { word }), Answer::Done) => vec![
-                (fault != 0 && fault != word | 1, "fault lost"),
-                (fault == 0 && word == 0, "fault of zeros"),
-            ],
-            (Some(Fault { .. }), _) => vec![(fault != 0, "bad word over a fault")],
-            (Some(AddCycles { count }), _) => vec![
-                (sum.checked_add(count).is_none(), "wrap"),
-                (count != 0 && sum.wrapping_add(count) == 0, "wrap to 0"),
-                (sum.wrapping_add(count) == u32::MAX, "sum at the top"),
-            ],
-            (Some(MirrorUpdate { mask, .. }), Answer::Refused(Refusal::WindowOffset)) => {
-                vec![(mask & !0xFFF0_007F != 0, "16 before 7")]
-            }
-            (
-                Some(MirrorUpdate {
-                    offset, mask: 0, ..
-                }),
-                _,
-            ) => {
-                vec![(place(offset) == "elsewhere", "mask 0 elsewhere")]
-            }
+        let cases = match self.command {
+            Some(WindowWrite {
+                offset,
+                lanes,
+                value,
+            }) => self.writes_near(offset, lanes, value),
+            Some(Fault { word }) => self.faults_near(word),
+            Some(AddCycles { count }) => self.sums_near(count),
+            Some(MirrorUpdate { offset, mask, .. }) => self.updates_near(offset, mask),
             _ => vec![],
         };
         cases
@@ -575,34 +522,218 @@ impl Event {
             .map(|(_, name)| name)
             .collect()
     }
+
+    fn writes_near(&self, offset: u32, lanes: u32, value: u32) -> Vec<(bool, &'static str)> {
+        let [fault, requests, mtouud, high, mbdsm, sum] = self.before.record().window;
+        let (lane_0, lane_2) = (lanes & 0x1 != 0, lanes & 0x4 != 0);
+        let (ones, mask) = (value & 0xF, value >> 16 & 0xF);
+        let new = ones & mask & !requests != 0;
+        let differs = |held: u32| (held ^ value) & !UNDRIVEN[lanes as usize] != 0;
+        match offset {
+            ASSRREQ => vec![
+                (
+                    lane_0 && lane_2 && ones & !mask & !requests != 0,
+                    "request, no mask bit",
+                ),
+                (lane_0 && !lane_2 && new, "request, mask's lane off"),
+                (!lane_0 && lane_2 && new, "request, own lane off"),
+                (
+                    lane_0 && lane_2 && !ones & mask & requests != 0,
+                    "zero over a request",
+                ),
+                (
+                    lanes == 0xF && value & value >> 16 & 0xFFF0 != 0,
+                    "request above bit 3",
+                ),
+            ],
+            FAULT_REG => vec![
+                (
+                    !lane_0 && value & 1 == 0 && fault != 0,
+                    "clear, its lane off",
+                ),
+                (lane_0 && value & 1 == 1 && fault != 0, "clear by a one"),
+                (
+                    lanes & 0x3 == 0x1 && value & 1 == 0 && fault > 0xFF,
+                    "clear by its lane alone",
+                ),
+            ],
+            MTOUUD => vec![(differs(mtouud), "write over a mirror")],
+            MTOUUD_HIGH => vec![(differs(high), "write over a mirror")],
+            MBDSM => vec![(differs(mbdsm), "write over a mirror")],
+            CYCLE_SUM => vec![(differs(sum), "write over the sum")],
+            _ => vec![],
+        }
+    }
+
+    fn updates_near(&self, offset: u32, mask: u32) -> Vec<(bool, &'static str)> {
+        let is_mirror = [MTOUUD, MTOUUD_HIGH, MBDSM].contains(&offset);
+        match self.said {
+            Answer::Refused(Refusal::WindowOffset) => {
+                vec![(mask & !0xFFF0_007F != 0, "16 before 7")]
+            }
+            Answer::Refused(_) => vec![
+                (is_mirror, "update outside a mirror's mask"),
+                (
+                    !is_mirror && REGISTERS.contains(&offset),
+                    "update of another register",
+                ),
+            ],
+            _ => vec![(
+                place(offset) == "elsewhere" && mask == 0,
+                "mask 0 elsewhere",
+            )],
+        }
+    }
+
+    fn faults_near(&self, word: u32) -> Vec<(bool, &'static str)> {
+        let held = self.before.record().window[0];
+        if matches!(self.said, Answer::Refused(_)) {
+            return vec![(held != 0, "bad word over a fault")];
+        }
+        vec![
+            (held != 0 && held != word | 1, "fault lost"),
+            (held == 0 && word == 0, "fault of zeros"),
+        ]
+    }
+
+    fn sums_near(&self, count: u32) -> Vec<(bool, &'static str)> {
+        let sum = self.before.record().window[5];
+        vec![
+            (sum.checked_add(count).is_none(), "wrap"),
+            (count != 0 && sum.wrapping_add(count) == 0, "wrap to 0"),
+            (sum.wrapping_add(count) == u32::MAX, "sum at the top"),
+        ]
+    }
 }
 
+/// What every session of 10,000 lines has of the window, at least so often.
+const OF_THE_WINDOW: &[(&str, usize)] = &[
+    ("read FAULT_REG", 150),
+    ("read ASSRREQ", 150),
+    ("read MTOUUD", 50),
+    ("read MTOUUD high", 50),
+    ("read MBDSM", 50),
+    ("read cycle sum", 50),
+    ("read elsewhere", 80),
+    ("read unaligned, refused", 5),
+    ("read above, refused", 2),
+    ("write FAULT_REG", 40),
+    ("write FAULT_REG, changed", 5),
+    ("clear, its lane off", 3),
+    ("clear by a one", 3),
+    ("clear by its lane alone", 1),
+    ("write ASSRREQ", 20),
+    ("write ASSRREQ, changed", 20),
+    ("request, no mask bit", 2),
+    ("request, mask's lane off", 2),
+    ("request, own lane off", 2),
+    ("request above bit 3", 5),
+    ("zero over a request", 2),
+    ("write MTOUUD", 5),
+    ("write MTOUUD high", 5),
+    ("write MBDSM", 5),
+    ("write over a mirror", 20),
+    ("write cycle sum", 10),
+    ("write over the sum", 10),
+    ("write elsewhere", 10),
+    ("write unaligned, refused", 5),
+    ("write above, refused", 2),
+    ("completion, changed", 5),
+    ("completion, refused", 2),
+    ("fault, changed", 10),
+    ("fault, refused", 7),
+    ("fault lost", 5),
+    ("fault of zeros", 1),
+    ("bad word over a fault", 2),
+    ("cycles, changed", 10),
+    ("wrap", 4),
+    ("wrap to 0", 1),
+    ("sum at the top", 2),
+    ("update MTOUUD, changed", 2),
+    ("update MTOUUD high, changed", 2),
+    ("update MBDSM, changed", 2),
+    ("update outside a mirror's mask", 5),
+    ("update of another register", 5),
+    ("update elsewhere, refused", 5),
+    ("mask 0 elsewhere", 5),
+    ("update unaligned, refused", 4),
+    ("update above, refused", 2),
+    ("16 before 7", 1),
+    ("busy read", 5),
+    ("busy read, refused", 3),
+    ("busy write, dropped", 4),
+    ("busy write, refused", 4),
+    ("busy completion, changed", 1),
+    ("busy fault, changed", 3),
+    ("busy fault, refused", 1),
+    ("busy cycles, changed", 4),
+    ("busy update, changed", 5),
+    ("busy update, refused", 10),
+    ("start, window kept", 40),
+    ("busy end, window kept", 40),
+    ("end, window kept", 40),
+    ("platform reset, changed", 20),
+];
+
 #[test]
-fn tmp_window_tally() {
-    let mut fewest: BTreeMap<String, usize> = BTreeMap::new();
-    for seed in 0..60 {
+fn every_session_has_all_of_the_window() {
+    for seed in 0..5 {
         let mut tally: BTreeMap<String, usize> = BTreeMap::new();
         for_each_event(seed, 10_000, Console, |event| {
             for name in event.window_names() {
                 *tally.entry(name).or_default() += 1;
             }
         });
-        for (name, count) in &tally {
-            let f = fewest
-                .entry(name.clone())
-                .or_insert(if seed == 0 { *count } else { 0 });
-            *f = (*f).min(*count);
-        }
-        for (name, f) in fewest.iter_mut() {
-            if !tally.contains_key(name) {
-                *f = 0;
-            }
-        }
-        if seed == 0 {
-            println!("{tally:#?}");
+        for (name, fewest) in OF_THE_WINDOW {
+            let count = tally.get(*name).copied().unwrap_or(0);
+            assert!(count >= *fewest, "seed {seed}, {name}: {tally:#?}");
         }
     }
-    println!("FEWEST {fewest:#?}");
+}
+
+/// The offset of an accepted guest access in the window.
+fn accessed(event: &Event) -> Option<u32> {
+    match (event.command, event.said) {
+        (Some(Command::WindowRead { offset, .. }), Answer::Value(_)) => Some(offset),
+        (Some(Command::WindowWrite { offset, .. }), Answer::Done) => Some(offset),
+        _ => None,
+    }
+}
+
+#[test]
+fn every_session_goes_from_claims_to_registers() {
+    for seed in 0..5 {
+        let mut claimed = None;
+        let mut reached: BTreeMap<u32, usize> = BTreeMap::new();
+        for_each_event(seed, 10_000, Console, |event| {
+            if let Some(offset) = accessed(&event).filter(|offset| claimed == Some(*offset)) {
+                *reached.entry(offset).or_default() += 1;
+            }
+            claimed = match event.said {
+                Answer::Claim(Claim::Translation(offset)) => Some(offset),
+                _ => None,
+            };
+        });
+        for register in REGISTERS {
+            let count = reached.get(&register).copied().unwrap_or(0);
+            assert!(count >= 1, "seed {seed}, {register:06X}: {reached:X?}");
+        }
+    }
+}
+
+#[test]
+fn only_the_console_knows_the_windows_lines() {
+    let mut lines_of_the_window = 0;
+    for seed in 0..10 {
+        for line in lines(&text(seed, 4_000, Player)) {
+            let line = line.strip_suffix(b"\n").unwrap_or(line);
+            if matches!(parse(line, Console), Some(command) if is_of_the_window(command)) {
+                assert_eq!(parse(line, Player), None);
+                lines_of_the_window += 1;
+            }
+        }
+    }
+    assert!(lines_of_the_window > 60, "{lines_of_the_window}");
 }
 
 // ---- wrong reads

@@ -61,6 +61,13 @@ impl Deed {
         }
     }
 
+    /// The value of such a write to ASSRREQ with lanes 0 and 2 on or off.
+    fn request(&self, lane_0: bool, lane_2: bool) -> Option<u32> {
+        self.write_to(ASSRREQ)
+            .filter(|(lanes, _)| (lanes & 0x1 != 0, lanes & 0x4 != 0) == (lane_0, lane_2))
+            .map(|(_, value)| value)
+    }
+
     /// Lets a guest's write go into a register as into plain memory.
     fn store(&mut self, register: u32) {
         if let Some((lanes, value)) = self.write_to(register) {
@@ -191,22 +198,22 @@ type Fault = (&'static str, fn(&mut Deed));
 
 const REQUESTS: &[Fault] = &[
     ("a request without its mask bit", |deed| {
-        if let Some((0x5 | 0x7 | 0xD | 0xF, value)) = deed.write_to(ASSRREQ) {
+        if let Some(value) = deed.request(true, true) {
             *deed.holds(ASSRREQ) |= value & 0xF;
         }
     }),
     ("a request by its mask bit alone", |deed| {
-        if let Some((0x5 | 0x7 | 0xD | 0xF, value)) = deed.write_to(ASSRREQ) {
+        if let Some(value) = deed.request(true, true) {
             *deed.holds(ASSRREQ) |= value >> 16 & 0xF;
         }
     }),
     ("a request though its mask's lane is off", |deed| {
-        if let Some((0x1 | 0x3 | 0x9 | 0xB, value)) = deed.write_to(ASSRREQ) {
+        if let Some(value) = deed.request(true, false) {
             *deed.holds(ASSRREQ) |= value & value >> 16 & 0xF;
         }
     }),
     ("a request though its own lane is off", |deed| {
-        if let Some((0x4 | 0x6 | 0xC | 0xE, value)) = deed.write_to(ASSRREQ) {
+        if let Some(value) = deed.request(false, true) {
             *deed.holds(ASSRREQ) |= value & value >> 16 & 0xF;
         }
     }),
@@ -216,12 +223,12 @@ const REQUESTS: &[Fault] = &[
         }
     }),
     ("a request cleared by a zero under its mask bit", |deed| {
-        if let Some((0x5 | 0x7 | 0xD | 0xF, value)) = deed.write_to(ASSRREQ) {
+        if let Some(value) = deed.request(true, true) {
             *deed.holds(ASSRREQ) &= !(value >> 16 & !value);
         }
     }),
     ("a request cleared by a one", |deed| {
-        if let Some((0x5 | 0x7 | 0xD | 0xF, value)) = deed.write_to(ASSRREQ) {
+        if let Some(value) = deed.request(true, true) {
             *deed.holds(ASSRREQ) = deed.held(ASSRREQ) ^ value & value >> 16 & 0xF;
         }
     }),
@@ -244,9 +251,8 @@ const REQUESTS: &[Fault] = &[
         }
     }),
     ("a completion that completes nothing", |deed| {
-        *deed.holds(ASSRREQ) |= deed.held(ASSRREQ);
-        if deed.command == Command::PlatformReset {
-            *deed.holds(ASSRREQ) = 0;
+        if deed.completion().is_some() {
+            *deed.holds(ASSRREQ) = deed.held(ASSRREQ);
         }
     }),
     ("a completion that makes requests", |deed| {

@@ -51,7 +51,6 @@ use Rattle.map.specs.Map.{guests}
 use Rattle.rules.specs.Access.{holding}
 use Rattle.rules.specs.declared.State.{State}
 use Rattle.rules.specs.declared.Flags.{Flags}
-use Rattle.rules.specs.Guest.{writeOf}
 use Rattle.writes.specs.Bytes.{lent, writeLanes}
 use Rattle.writes.proofs.Bridge.{write-is}
 use Rattle.writes.proofs.Bridge as bridge

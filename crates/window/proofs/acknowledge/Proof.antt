@@ -1,11 +1,9 @@
 -- A guest write to FAULT_REG.
-use mathlib.Core.Path.{_≡_, sym, _∙_}
+use mathlib.Core.Path.{_≡_, _∙_}
 use native.Mathlib.Omega.{arith}
-use borrow.Author.Tests.{ne-eqb}
 use Rattle.bits.specs.Bits.{bit}
 use Rattle.rules.specs.Window.{acknowledged}
 use Rattle.window.proofs.Bridge.{bit-first}
-use borrow.Author.Needs.{needs}
 use Rattle.window.proofs.acknowledge.Statement.{statement}
 use Rattle.window.proofs.acknowledge.Tie as tie
 

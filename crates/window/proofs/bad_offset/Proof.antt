@@ -1,6 +1,5 @@
 -- An offset above 3FFFFFh or not a multiple of 4.
 use Rattle.bits.proofs.Tests.{tests}
-use borrow.Author.Needs.{needs}
 use Rattle.window.proofs.bad_offset.Statement.{statement}
 use Rattle.window.proofs.bad_offset.Tie as tie
 

@@ -1,7 +1,6 @@
 -- A mirror's mask.
 use Rattle.bits.proofs.Tests.{tests}
 use Rattle.rules.specs.Window.{mirrorMask}
-use borrow.Author.Needs.{needs}
 use Rattle.window.proofs.mask_at.Statement.{statement}
 use Rattle.window.proofs.mask_at.Tie as tie
 

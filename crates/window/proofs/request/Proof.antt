@@ -1,6 +1,6 @@
 -- A guest write to ASSRREQ.
 use mathlib.Core.Path.{_≡_, _∙_}
-use Prim.Native.Nat.{_^_, _<_, _/_}
+use Prim.Native.Nat.{_^_, _<_}
 use native.Mathlib.Omega.{arith}
 use lib.Dec.{eqb}
 use Rattle.bits.specs.Bits.{bit}

@@ -1,7 +1,6 @@
 -- A dword by its offset.
 use Rattle.bits.proofs.Tests.{tests}
 use Rattle.window.specs.Shown.{shownOf}
-use borrow.Author.Needs.{needs}
 use Rattle.window.proofs.shown.Statement.{statement}
 use Rattle.window.proofs.shown.Tie as tie
 

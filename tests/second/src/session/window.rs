@@ -10,7 +10,7 @@ use crate::window::Register;
 /// One change of a register in so many has a reset between it and the look.
 const CHANGES_TO_A_RESET: u64 = 8;
 /// One look at a dword in so many has a read of fewer lanes behind it.
-const LOOKS_TO_FEWER_LANES: u64 = 6;
+const LOOKS_TO_FEWER_LANES: u64 = 4;
 
 /// The registers, those with more rules more often.
 const WEIGHTED_REGISTERS: &[Register] = &[
@@ -18,6 +18,7 @@ const WEIGHTED_REGISTERS: &[Register] = &[
     Register::FaultReg,
     Register::FaultReg,
     Register::FaultReg,
+    Register::Assrreq,
     Register::Assrreq,
     Register::Assrreq,
     Register::Assrreq,
@@ -65,7 +66,7 @@ impl Session {
             0..=11 => self.changes_of_a_register(),
             12..=16 => self.around_the_registers(),
             17..=18 => self.through_claims(),
-            _ => self.read_by_all_lanes(),
+            _ => self.window_reads_by_all_lanes(),
         }
     }
 
@@ -73,17 +74,8 @@ impl Session {
     /// a reset in between.
     fn changes_of_a_register(&mut self) {
         let register = self.rng.pick(WEIGHTED_REGISTERS);
-        self.push_opening(register);
-        let changes_to_a_write = match register {
-            Register::FaultReg | Register::Assrreq => 2,
-            _ => 4,
-        };
         for _ in 0..3 + self.rng.below(6) {
-            if self.rng.one_in(changes_to_a_write) {
-                self.push_guest_write(register.offset());
-            } else {
-                self.push_host_change(register);
-            }
+            self.push_change(register);
             if self.rng.one_in(CHANGES_TO_A_RESET) {
                 self.push_reset();
             }
@@ -94,15 +86,6 @@ impl Session {
         }
     }
 
-    /// Makes room for requests and for a fault, if the scene is about them.
-    fn push_opening(&mut self, register: Register) {
-        match register {
-            Register::Assrreq => self.push(complete(0xF)),
-            Register::FaultReg => self.push(window_write(register.offset(), 0xF, 0)),
-            _ => {}
-        }
-    }
-
     /// A platform reset, or the start of a function reset, before which the
     /// guest may leave the host something to do.
     fn push_reset(&mut self) {
@@ -110,8 +93,8 @@ impl Session {
             return self.push(b"P".to_vec());
         }
         match self.rng.below(4) {
-            0 | 1 => self.push(window_write(Register::Assrreq.offset(), 0xF, u32::MAX)),
-            2 => self.push(window_write(Register::FaultReg.offset(), 0xF, 0)),
+            0 => self.push(window_write(Register::Assrreq.offset(), 0xF, u32::MAX)),
+            1 => self.push(window_write(Register::FaultReg.offset(), 0xF, 0)),
             _ => {}
         }
         self.push(write(0xA8, 0x1, 1));
@@ -126,15 +109,14 @@ impl Session {
         }
     }
 
-    /// The windows' bases and enables, and then claims of addresses at which
-    /// registers lie, each with the access that it leads to.
+    /// The windows' bases and enables, and then claims of the addresses at which
+    /// the registers lie, each with the accesses that it leads to.
     fn through_claims(&mut self) {
         self.set_up_windows();
-        for _ in 0..3 + self.rng.below(4) {
-            let register = self.rng.pick(&Register::ALL);
+        for register in Register::ALL {
             self.steps.push_back(Step::InTranslation(register.offset()));
             if self.rng.one_in(2) {
-                self.push_guest_write(register.offset());
+                self.steps.push_back(Step::WindowWrite(register.offset()));
             }
             self.push_window_look(register.offset());
         }
@@ -146,7 +128,7 @@ impl Session {
         }
     }
 
-    fn read_by_all_lanes(&mut self) {
+    fn window_reads_by_all_lanes(&mut self) {
         let register = self.telling_register();
         for lanes in 0..16 {
             self.push(window_read(register.offset(), lanes));
@@ -172,30 +154,28 @@ impl Session {
 
     /// An access while busy, and its dword if it may change something.
     fn busy_window_access(&mut self) -> Option<u32> {
-        let register = self.rng.pick(WEIGHTED_REGISTERS);
-        match self.rng.below(9) {
-            0..=1 => self.push_guest_write(register.offset()),
-            2..=5 => self.push_host_change(register),
-            _ => return self.push_access_anywhere(),
+        if self.rng.one_in(3) {
+            return self.push_access_anywhere();
         }
+        let register = self.rng.pick(WEIGHTED_REGISTERS);
+        self.push_change(register);
         Some(register.offset())
     }
 }
 
 /// Accesses.
 impl Session {
-    /// A register that holds something, if there is one, or any.
-    fn telling_register(&mut self) -> Register {
-        let held = self.twin.record().window;
-        let telling: Vec<Register> = Register::ALL
-            .into_iter()
-            .filter(|register| held[*register as usize] != 0)
-            .collect();
-        if telling.is_empty() || self.rng.one_in(3) {
-            self.rng.pick(&Register::ALL)
+    /// What the guest or the host may do to a register, or might be thought to.
+    fn push_change(&mut self, register: Register) {
+        let by_the_guest = self.rng.one_in(match register {
+            Register::FaultReg | Register::Assrreq => 2,
+            _ => 4,
+        });
+        self.steps.push_back(if by_the_guest {
+            Step::WindowWrite(register.offset())
         } else {
-            self.rng.pick(&telling)
-        }
+            Step::HostChange(register)
+        });
     }
 
     /// An access by the guest or an update by the host at any offset, and the
@@ -204,8 +184,11 @@ impl Session {
         let register = self.telling_register();
         let offset = offset_near(&mut self.rng, register);
         match self.rng.below(3) {
-            0 => self.push_guest_write(offset),
-            1 => self.push_mirror_update(offset),
+            0 => self.steps.push_back(Step::WindowWrite(offset)),
+            1 => {
+                let line = self.mirror_update_line(offset);
+                self.push(line);
+            }
             _ => {
                 let lanes = self.read_lanes();
                 self.push(window_read(offset, lanes));
@@ -213,6 +196,19 @@ impl Session {
             }
         }
         Some(within(offset))
+    }
+
+    /// A register that holds something, if there is one, or any.
+    fn telling_register(&mut self) -> Register {
+        let telling: Vec<Register> = Register::ALL
+            .into_iter()
+            .filter(|register| self.held(*register) != 0)
+            .collect();
+        if telling.is_empty() || self.rng.one_in(3) {
+            self.rng.pick(&Register::ALL)
+        } else {
+            self.rng.pick(&telling)
+        }
     }
 
     /// A guest read of a whole dword, and now and then one of fewer lanes.
@@ -224,38 +220,98 @@ impl Session {
         }
     }
 
+    /// What a register holds.
+    fn held(&self, register: Register) -> u32 {
+        self.twin.record().window[register as usize]
+    }
+}
+
+/// Lines for the window as it stands.
+impl Session {
     /// A guest write of a kind that tells something at the register there.
-    fn push_guest_write(&mut self, offset: u32) {
+    pub(super) fn window_write_line(&mut self, offset: u32) -> Vec<u8> {
         let (lanes, value) = match Register::at(within(offset)) {
-            Some(Register::Assrreq) => request(&mut self.rng),
-            Some(Register::FaultReg) => clear(&mut self.rng),
+            Some(Register::Assrreq) => self.request(),
+            Some(Register::FaultReg) => self.clear(),
             _ => (self.lanes(), self.rng.telling_dword()),
         };
-        self.push(window_write(offset, lanes, value));
+        window_write(offset, lanes, value)
+    }
+
+    /// Lanes and value of a write to ASSRREQ: new requests, new ones without
+    /// their mask bits, zeros over the old ones, new ones with a lane off, or any.
+    fn request(&mut self) -> (u32, u32) {
+        let old = self.held(Register::Assrreq) & 0xF;
+        let rng = &mut self.rng;
+        let some = 1 + rng.below(15) as u32;
+        let new = if some & !old == 0 { some } else { some & !old };
+        let right = new | new << 16;
+        let (lanes, any) = (rng.below(16) as u32, rng.telling_dword());
+        let others = rng.pick(&[0, any & 0xFFF0_FFF0]);
+        match rng.below(8) {
+            0 => (0xF, right | others),
+            1 | 2 => (lanes | 0x5, right | others),
+            3 => (lanes | 0x5, new | (new ^ 0xF) << 16 | others),
+            4 => (lanes | 0x5, some & !old | 0x000F_0000 | others),
+            5 => (lanes & !0x4 | 0x1, right | others),
+            6 => (lanes & !0x1 | 0x4, right | others),
+            _ => (lanes, any),
+        }
+    }
+
+    /// Lanes and value of a write to FAULT_REG: a clear, by its lane alone too,
+    /// one with its lane off, or one with a one.
+    fn clear(&mut self) -> (u32, u32) {
+        let rng = &mut self.rng;
+        let (lanes, any) = (rng.below(16) as u32, rng.telling_dword());
+        match rng.below(6) {
+            0 => (lanes & !0x2 | 0x1, any & !1),
+            1 => (lanes | 0x1, any & !1),
+            2 | 3 => (lanes & !0x1, any & !1),
+            _ => (lanes | 0x1, any | 1),
+        }
     }
 
     /// What the host may do to a register, or might be thought to.
-    fn push_host_change(&mut self, register: Register) {
-        let (some, one) = (self.rng.below(16) as u32, 1 << self.rng.below(32));
+    pub(super) fn host_change_line(&mut self, register: Register) -> Vec<u8> {
+        if self.rng.one_in(6) {
+            return self.mirror_update_line(register.offset());
+        }
         match register {
-            _ if self.rng.one_in(5) => self.push_mirror_update(register.offset()),
-            Register::FaultReg => {
-                let word = fault_word(&mut self.rng);
-                self.push(fault(word));
-            }
-            Register::Assrreq => {
-                let mask = self.rng.pick(&[some, some, 0xF, some | one]);
-                self.push(complete(mask));
-            }
-            Register::CycleSum => self.steps.push_back(Step::Cycles),
+            Register::FaultReg => self.fault_line(),
+            Register::Assrreq => self.completion_line(),
+            Register::CycleSum => self.cycles_line(),
             Register::Mtouud | Register::MtouudHigh | Register::Mbdsm => {
-                self.push_mirror_update(register.offset());
+                self.mirror_update_line(register.offset())
             }
         }
     }
 
+    /// A fault word, good or with a bit that it may not have.
+    fn fault_line(&mut self) -> Vec<u8> {
+        let rng = &mut self.rng;
+        let some = rng.dword() & 0x77FE;
+        let (one, any) = (1 << rng.below(32), rng.telling_dword());
+        fault(rng.pick(&[some, some, some, 0, 0x77FE, some | 1, some | one, any]))
+    }
+
+    /// The completion of some requests, of all, or of what can be none.
+    fn completion_line(&mut self) -> Vec<u8> {
+        let old = self.held(Register::Assrreq) & 0xF;
+        let rng = &mut self.rng;
+        let (some, one) = (rng.below(16) as u32, 1 << rng.below(32));
+        complete(rng.pick(&[some, some, old, old & some, some | one]))
+    }
+
+    /// A count that just reaches the top, wraps to 0, goes on, or is any.
+    fn cycles_line(&mut self) -> Vec<u8> {
+        let to_the_top = !self.held(Register::CycleSum);
+        let (any, past) = (self.rng.telling_dword(), to_the_top.wrapping_add(1));
+        add_cycles(self.rng.pick(&[to_the_top, past, any, any, 1, u32::MAX]))
+    }
+
     /// An update with a mask inside or outside the one of the register there.
-    fn push_mirror_update(&mut self, offset: u32) {
+    fn mirror_update_line(&mut self, offset: u32) -> Vec<u8> {
         let bits = Register::at(within(offset)).map_or(0, Register::update_mask);
         let (some, one) = (self.rng.dword(), 1 << self.rng.below(32));
         let mask = match (bits, self.rng.below(9)) {
@@ -266,57 +322,8 @@ impl Session {
             (_, 3..=5) => bits,
             _ => bits & some,
         };
-        let value = self.rng.telling_dword();
-        self.push(mirror_update(offset, mask, value));
+        mirror_update(offset, mask, self.rng.telling_dword())
     }
-
-    /// A count for the cycle sum as it stands: it may just reach the top, or
-    /// wrap to 0, or go on from there.
-    pub(super) fn cycles(&mut self) -> Vec<u8> {
-        let sum = self.twin.record().window[Register::CycleSum as usize];
-        let any = self.rng.telling_dword();
-        let count = self
-            .rng
-            .pick(&[!sum, (!sum).wrapping_add(1), any, any, 1, u32::MAX]);
-        add_cycles(count)
-    }
-}
-
-/// Lanes and value of a write to ASSRREQ: right requests, requests without
-/// their mask bits, zeros over requests, requests with a lane off, or any.
-fn request(rng: &mut Rng) -> (u32, u32) {
-    let requests = 1 + rng.below(15) as u32;
-    let (lanes, any) = (rng.below(16) as u32, rng.telling_dword());
-    let right = requests | requests << 16;
-    let others = rng.pick(&[0, any & 0xFFF0_FFF0]);
-    match rng.below(8) {
-        0 => (0xF, right | others),
-        1 => (lanes | 0x5, right | others),
-        2 => (lanes | 0x5, requests | (requests ^ 0xF) << 16 | others),
-        3 => (lanes | 0x5, requests | 0x000F_0000 | others),
-        4 | 5 => (lanes & !0x4 | 0x1, right | others),
-        6 => (lanes & !0x1 | 0x4, right | others),
-        _ => (lanes, any),
-    }
-}
-
-/// Lanes and value of a write to FAULT_REG: a clear, by its lane alone too,
-/// one with its lane off, or one with a one.
-fn clear(rng: &mut Rng) -> (u32, u32) {
-    let (lanes, any) = (rng.below(16) as u32, rng.telling_dword());
-    match rng.below(7) {
-        0 | 1 => (lanes & !0x2 | 0x1, any & !1),
-        2 => (lanes | 0x1, any & !1),
-        3 | 4 => (lanes & !0x1, any & !1),
-        _ => (lanes | 0x1, any | 1),
-    }
-}
-
-/// A fault word, good or with a bit that it may not have.
-fn fault_word(rng: &mut Rng) -> u32 {
-    let some = rng.dword() & 0x77FE;
-    let (one, any) = (1 << rng.below(32), rng.telling_dword());
-    rng.pick(&[some, some, some, 0, 0, 0x77FE, some | 1, some | one, any])
 }
 
 /// The dword of the window to which an offset goes if it is rounded and wrapped.

@@ -1,0 +1,99 @@
+-- No clause of the window is empty: for each a run, computed, in which its case happens.
+use mathlib.Core.Path.{_≡_, refl}
+use mathlib.Core.List.{List, [], _∷_}
+use Rattle.bits.specs.Bits.{numberOf}
+use Rattle.answer.specs.Refusals.{ok, no, LANES, NOT-HOST, WINDOW-OFFSET}
+use Rattle.map.specs.Registers.{PCICMD2, GTTMMADR, AFCTL}
+use Rattle.map.specs.Map.{rows, rowAt, classOf, defaults}
+use Rattle.rules.specs.Access.{enabled, byteFor}
+use Rattle.rules.specs.Guest.{bitsTaken, takenBy, takes, store, clear, starts, storedBit, sizeAfter, bitAfter, ofField, touches, flagsAfter, writtenOf, stepOf, writeOf}
+use Rattle.rules.specs.Reset.{reset, endedBit, endedOf, endOf}
+use Rattle.rules.specs.Fresh.{freshOf}
+use Rattle.rules.specs.Past.{ran, anyReset, since, lastGiven}
+use Rattle.rules.specs.Claims.{claimed, translation, base, memoryClaimOf}
+use Rattle.rules.specs.Window.{FAULT-REG, ASSRREQ, MTOUUD-HIGH, MBDSM, DRAM-CYCLES, windowBit, windowReadBit, windowReadOf, requested, acknowledged, windowWritten, windowStepOf, windowWriteOf, beyond, masked, completeOf, recorded, faulted, faultOf, cyclesOf, mirrorMask, mirrored, mirrorUpdateOf}
+use Rattle.rules.specs.Events.{window-read, window-write, complete, fault, add-cycles, mirror-update, windowHappens, Event, write, end-signal, platform-reset, window, happens, run}
+use Rattle.rules.specs.WindowRuns.{mirrorBit, total}
+
+-- ---- the runs
+
+-- MBDSM is updated twice, the second time in its lock alone, with a guest write in between, and a function reset
+abbrev reflected : List Event
+reflected = window (mirror-update MBDSM 0xFFF00001 0x9AB00000) ∷ window (window-write MBDSM 15 0) ∷ write AFCTL 1 1 ∷ end-signal ∷ window (mirror-update MBDSM 1 0xFFFFFFFF) ∷ []
+
+-- two faults, and a third after a write that clears the first
+abbrev faults : List Event
+faults = window (fault 0x1152) ∷ window (fault 0x4008) ∷ []
+
+abbrev cleared : List Event
+cleared = window (fault 0x1152) ∷ window (window-write FAULT-REG 1 0) ∷ window (fault 0x4008) ∷ []
+
+-- requests: without a mask, with it, with its lane not enabled; one is completed
+abbrev asked : List Event
+asked = window (window-write ASSRREQ 15 0x00000001) ∷ window (window-write ASSRREQ 15 0x00060006) ∷ window (window-write ASSRREQ 11 0x00080008) ∷ window (complete 4) ∷ []
+
+-- the sum wraps
+abbrev summed : List Event
+summed = window (add-cycles 0xFFFFFFFF) ∷ window (add-cycles 3) ∷ []
+
+-- while busy a guest write is dropped and the host's changes are not
+abbrev busied : List Event
+busied = write AFCTL 1 1 ∷ window (window-write ASSRREQ 15 0x00010001) ∷ window (add-cycles 7) ∷ []
+
+-- GTTMMADR is placed
+abbrev placed : List Event
+placed = write GTTMMADR 15 0xF7800000 ∷ write PCICMD2 1 2 ∷ []
+
+-- ---- what they come to
+
+pub record Witnessed : Type 0 where
+  pub reflected-read : windowReadOf (run reflected) MBDSM 15 ≡ ok 0x9AB00001
+  pub reflected-bit : mirrorBit MBDSM 0 reflected ≡ 1
+  pub faults-read : windowReadOf (run faults) FAULT-REG 15 ≡ ok 0x00001153
+  pub cleared-read : windowReadOf (run cleared) FAULT-REG 15 ≡ ok 0x00004009
+  pub asked-read : windowReadOf (run asked) ASSRREQ 15 ≡ ok 0x00000002
+  pub asked-lane : windowReadOf (run asked) ASSRREQ 1 ≡ ok 0xFFFFFF02
+  pub summed-read : windowReadOf (run summed) DRAM-CYCLES 15 ≡ ok 0x00000002
+  pub summed-total : total summed ≡ 0x100000002
+  pub busied-read : windowReadOf (run busied) ASSRREQ 15 ≡ ok 0xFFFFFFFF
+  pub busied-ended : windowReadOf (endOf (run busied)) ASSRREQ 15 ≡ ok 0
+  pub busied-sum : windowReadOf (endOf (run busied)) DRAM-CYCLES 15 ≡ ok 7
+  pub placed-claim : memoryClaimOf (run placed) 0xF780810C ≡ claimed translation ASSRREQ
+  pub reset-read : windowReadOf (happens platform-reset (run reflected) .state) MBDSM 15 ≡ ok 0
+  -- refusals in their order
+  pub offset-first : happens (window (window-read 0x400000 16)) freshOf .reply ≡ no WINDOW-OFFSET
+  pub then-lanes : happens (window (window-write MBDSM 16 0)) freshOf .reply ≡ no LANES
+  pub update-offset-first : happens (window (mirror-update 0x108082 0xFFFFFFFF 0)) freshOf .reply ≡ no WINDOW-OFFSET
+  pub update-outside : happens (window (mirror-update MTOUUD-HIGH 0x80 0)) freshOf .reply ≡ no NOT-HOST
+  pub update-of-none : happens (window (mirror-update DRAM-CYCLES 1 1)) freshOf .reply ≡ no NOT-HOST
+  pub mask-0-of-none : happens (window (mirror-update DRAM-CYCLES 0 1)) freshOf .reply ≡ ok 0
+  pub complete-outside : happens (window (complete 0x10)) freshOf .reply ≡ no NOT-HOST
+  pub fault-outside : happens (window (fault 1)) freshOf .reply ≡ no NOT-HOST
+  pub elsewhere : windowReadOf (run reflected) 0x108088 15 ≡ ok 0
+
+pub witnessed : Witnessed
+unfolding numberOf rows rowAt classOf defaults enabled byteFor bitsTaken takenBy takes store clear starts storedBit sizeAfter bitAfter ofField touches flagsAfter writtenOf stepOf writeOf reset endedBit endedOf endOf freshOf base memoryClaimOf happens ran anyReset since lastGiven windowBit windowReadBit windowReadOf requested acknowledged windowWritten windowStepOf windowWriteOf beyond masked completeOf recorded faulted faultOf cyclesOf mirrorMask mirrored mirrorUpdateOf windowHappens total
+witnessed = record {
+  reflected-read = refl;
+  reflected-bit = refl;
+  faults-read = refl;
+  cleared-read = refl;
+  asked-read = refl;
+  asked-lane = refl;
+  summed-read = refl;
+  summed-total = refl;
+  busied-read = refl;
+  busied-ended = refl;
+  busied-sum = refl;
+  placed-claim = refl;
+  reset-read = refl;
+  offset-first = refl;
+  then-lanes = refl;
+  update-offset-first = refl;
+  update-outside = refl;
+  update-of-none = refl;
+  mask-0-of-none = refl;
+  complete-outside = refl;
+  fault-outside = refl;
+  elsewhere = refl;
+}
