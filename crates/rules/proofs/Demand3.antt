@@ -88,8 +88,8 @@ refused-changes-nothing (window (add-cycles n)) s r = absurd (r refl)
 refused-changes-nothing (window (mirror-update o m v)) s r = two (badWindow o) (beyond (mirrorMask o) m) _ _ s _ r
 
 pub reads-change-nothing : Reads
-unfolding happens
-reads-change-nothing s a b = (refl, refl)
+unfolding happens windowHappens
+reads-change-nothing s a b = (refl, refl, refl)
 
 -- ---- while a function reset is under way
 

@@ -2,7 +2,7 @@
 use mathlib.Core.Path.{_≡_, refl, sym, ap, subst, _∙_}
 use mathlib.Core.List.{List, [], _∷_}
 use mathlib.Core.Bool.{Bool, true, false, not}
-use Prim.Native.Nat.{ℕ, _+_, _/_, _%_, _^_, _≤_, _<_}
+use Prim.Native.Nat.{ℕ, _+_, _-_, _*_, _/_, _%_, _^_, _≤_, _<_}
 use native.Mathlib.Omega.{arith}
 use native.Mathlib.Nat.{add-zero, zero-add, mod-eq-of-lt}
 use lib.Dec.{T, eqb, ltb, eqb→eq}
@@ -15,21 +15,22 @@ use Rattle.answer.specs.Refusals.{ok, LANES, NOT-HOST, WINDOW-OFFSET}
 use Rattle.map.specs.Registers.{PCICMD2, MSAC}
 use Rattle.rules.specs.declared.State.{State}
 use Rattle.rules.specs.declared.Mapped.{Mapped}
-use Rattle.rules.specs.Access.{byte, busy, badLanes, Outcome, done, refused}
+use Rattle.rules.specs.Access.{byte, busy, enabled, byteFor, badLanes, Outcome, done, refused}
 use Rattle.rules.specs.Guest.{sizeOf, exponentOf, writtenOf}
 use Rattle.rules.specs.Host.{notHost, hostStepOf, hostOf}
 use Rattle.rules.specs.Reset.{endedOf, endOf}
 use Rattle.rules.specs.Fresh.{freshWindow, freshOf}
 use Rattle.rules.specs.Past as P
 use Rattle.rules.specs.Past.{nothing, given, orHeld, ran, lastGiven}
-use Rattle.rules.specs.Plain.{undriven, laneValue}
+use Rattle.rules.specs.Plain.{Bits, undriven, laneValue, shownValue}
 use Rattle.rules.specs.Claims.{Claimed, unclaimed, claimed, translation, aperture, io, translationBase, apertureBase, translationExponent, holds, off, apertureClaim, memoryClaimOf}
-use Rattle.rules.specs.Window.{FAULT-REG, ASSRREQ, MTOUUD, MTOUUD-HIGH, MBDSM, badWindow, withWindow, windowBit, windowReadBit, windowReadOf, withFault, withAssrreq, withMtouud, withMtouudh, withMbdsm, withCycles, clears, asks, acknowledged, requested, faulted, windowWritten, windowStepOf, windowWriteOf, beyond, masked, requestMask, completeOf, faultMask, faultOf, cyclesOf, mirrorMask, mirrored, mirrorUpdateOf}
+use Rattle.rules.specs.Window.{FAULT-REG, ASSRREQ, MTOUUD, MTOUUD-HIGH, MBDSM, DRAM-CYCLES, badWindow, withWindow, windowBit, windowReadBit, windowReadOf, withFault, withAssrreq, withMtouud, withMtouudh, withMbdsm, withCycles, clears, asks, acknowledged, requested, faulted, windowWritten, windowStepOf, windowWriteOf, beyond, masked, requestMask, completeOf, faultMask, faultOf, cyclesOf, mirrorMask, mirrored, mirrorUpdateOf}
 use Rattle.rules.specs.Events.{WindowEvent, window-read, window-write, complete, fault, add-cycles, mirror-update, windowHappens, Event, read, write, port-read, port-write, host-update, end-signal, platform-reset, window, happens, next, runFrom, run}
 use Rattle.rules.specs.History.{isReset, anyReset, since, GuestWrite, none, at, guestWrite}
-use Rattle.rules.specs.WindowRuns.{isMirror, inWindow, mirrorGives, mirrorBit, Mirrors, Mirrors-read, counted, total, Sum, clearing, Locked, Requests, Left, Apart, Window-busy, Claimed-reached}
+use Rattle.rules.specs.WindowRuns.{isMirror, inWindow, mirrorGives, mirrorBit, Mirrors, Mirrors-read, counted, total, Sum, clearing, Locked, Requests, Left, Apart, Window-busy, Window-lanes, Window-no-lanes, Claimed-reached}
 use Rattle.rules.proofs.Past.{history}
 use Rattle.rules.proofs.EachBit.{host-state}
+use Rattle.rules.proofs.Lanes.{in-lanes, no-lanes}
 use Rattle.rules.proofs.Runs.{reset-forgets, run-since, since-none, each-keeps, performed, seenOf, write-effect, port-effect, window-effect}
 
 -- ---- 5. what leaves the window, and what the window leaves
@@ -351,7 +352,43 @@ window-busy s q = (λ o l. rw (all-ones s o l q), λ o l v. rw q (go (badWindow 
     go false true = refl
     go false false = refl
 
--- ---- 7. how an address gets there
+-- ---- 7. lane by lane
+
+window<2 : (s : State) (o n : ℕ) → windowReadBit s o n < 2
+unfolding windowReadBit windowBit
+window<2 s o n =
+    let B : ℕ → Type 0 = λ y. y < 2 in
+    let w = s .window in
+    pick-has B (busy s) _ _ (omega arith)
+    (pick-has B (eqb o FAULT-REG) _ _ (bit<2 (w .fault) n)
+    (pick-has B (eqb o ASSRREQ) _ _ (pick-has B (ltb n 16) _ _ (bit<2 (w .assrreq) n) (omega arith))
+    (pick-has B (eqb o MTOUUD) _ _ (bit<2 (w .mtouud) n)
+    (pick-has B (eqb o MTOUUD-HIGH) _ _ (bit<2 (w .mtouudh) n)
+    (pick-has B (eqb o MBDSM) _ _ (bit<2 (w .mbdsm) n)
+    (pick-has B (eqb o DRAM-CYCLES) _ _ (bit<2 (w .cycles) n) (omega arith)))))))
+
+-- the dword's bits by the bytes from o on
+abbrev byteBit : State → ℕ → Bits
+byteBit s o i j = windowReadBit s o (8 * (i - o) + j)
+
+by-bytes : (s : State) (o l : ℕ) → laneValue (windowReadBit s o) l ≡ shownValue (byteBit s o) o l
+by-bytes s o l =
+    number-ext 32 (λ (n : ℕ). pick (eqb (bit l (n / 8)) 1) (windowReadBit s o n) undriven) (λ (n : ℕ). pick (eqb (bit l (n / 8)) 1) (byteBit s o (o + n / 8) (n % 8)) undriven)
+    (λ n h.
+    let whole : 8 * (o + n / 8 - o) + n % 8 ≡ n = omega arith in
+    rw whole)
+
+pub window-lanes : Window-lanes
+window-lanes s o l k h =
+    let here : o + k - o ≡ k = omega arith in
+    ap (λ (v : ℕ). byteFor o v (o + k)) (by-bytes s o l)
+    ∙ in-lanes (byteBit s o) o l k (λ i j. window<2 s o (8 * (i - o) + j)) h
+    ∙ ap (λ (y : ℕ). pick (enabled o l (o + k)) y 0xFF) (number-ext 8 (byteBit s o (o + k)) (λ (j : ℕ). windowReadBit s o (8 * k + j)) (λ j g. ap (λ (x : ℕ). windowReadBit s o (8 * x + j)) here))
+
+pub window-no-lanes : Window-no-lanes
+window-no-lanes s o = by-bytes s o 0 ∙ no-lanes (byteBit s o) o
+
+-- ---- 8. how an address gets there
 
 -- the offset of a translation claim
 abbrev inside : Claimed → ℕ → Type 0

@@ -1,4 +1,4 @@
--- Demand 3, clause by clause: what holds after every run of guest accesses, port accesses, host updates, end signals and platform resets from the fresh state.
+-- Demand 3, clause by clause: what holds after every run of guest accesses, port accesses, host updates, end signals, events of the window and platform resets from the fresh state; of the window itself see WindowRuns.antt.
 -- The clauses speak of held bits; what a guest reads while a function reset is under way is said in clause 6.
 use mathlib.Core.Path.{_≡_}
 use mathlib.Core.List.{List}
@@ -18,7 +18,7 @@ use Rattle.rules.specs.Plain.{readReply, shownValue}
 use Rattle.rules.specs.Reset.{endOf}
 use Rattle.rules.specs.Ports.{atLatch, portValue, portWriteOf}
 use Rattle.rules.specs.Claims.{apertureBase, unclaimed, memoryClaimOf, ioClaimOf}
-use Rattle.rules.specs.Events.{Event, read, port-read, happens, run}
+use Rattle.rules.specs.Events.{window-read, Event, read, port-read, window, happens, run}
 use Rattle.rules.specs.History.{seen, firstWrite, overDefault, lastUpdate, orDefault}
 
 -- 1. Since the last platform reset, or the start, each write-once field holds its default until the first accepted guest write to this
@@ -47,7 +47,7 @@ abbrev pub Refused : Type 0
 Refused = (e : Event) (s : State) → (happens e s .reply .number ≡ 0 → ⊥) → happens e s .state ≡ s
 
 abbrev pub Reads : Type 0
-Reads = (s : State) (a b : ℕ) → (happens (read a b) s .state ≡ s) × (happens (port-read a b) s .state ≡ s)
+Reads = (s : State) (a b : ℕ) → (happens (read a b) s .state ≡ s) × (happens (port-read a b) s .state ≡ s) × (happens (window (window-read a b)) s .state ≡ s)
 
 -- 6. The state is busy exactly from an accepted guest write that starts a function reset, and was not dropped, until an end signal or a platform reset.
 abbrev pub Busy : Type 0

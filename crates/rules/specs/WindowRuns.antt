@@ -2,15 +2,16 @@
 use mathlib.Core.Path.{_≡_}
 use mathlib.Core.List.{List, [], _∷_}
 use mathlib.Core.Bool.{Bool, true, false, not}
-use Prim.Native.Nat.{ℕ, _+_, _%_, _^_, _≤_, _<_}
-use Rattle.bits.specs.Bits.{bit, numberOf}
+use Prim.Native.Nat.{ℕ, _+_, _*_, _%_, _^_, _≤_, _<_}
+use Rattle.bits.specs.Bits.{bit, numberOf, byteOf}
 use Rattle.bits.specs.Choice.{if_then_else_, _and_, _or_, _is_}
 use Rattle.answer.specs.Refusals.{ok, WINDOW-OFFSET}
 use Rattle.rules.specs.declared.State.{State}
-use Rattle.rules.specs.Access.{busy, replyAt}
+use Rattle.rules.specs.Access.{busy, enabled, byteFor, replyAt}
 use Rattle.rules.specs.Past.{Given, nothing, given, orHeld, lastGiven}
+use Rattle.rules.specs.Plain.{laneValue}
 use Rattle.rules.specs.Claims.{claimed, translation, memoryClaimOf}
-use Rattle.rules.specs.Window.{FAULT-REG, MTOUUD, MTOUUD-HIGH, MBDSM, badWindow, windowBit, windowReadOf, clears, windowWriteOf, beyond, mirrorMask}
+use Rattle.rules.specs.Window.{FAULT-REG, MTOUUD, MTOUUD-HIGH, MBDSM, badWindow, windowBit, windowReadBit, windowReadOf, clears, windowWriteOf, beyond, mirrorMask}
 use Rattle.rules.specs.Events.{WindowEvent, window-read, window-write, complete, fault, add-cycles, mirror-update, windowHappens, Event, read, write, port-read, port-write, host-update, end-signal, platform-reset, window, happens, run}
 use Rattle.rules.specs.History.{isReset, since}
 
@@ -99,7 +100,15 @@ Apart = (e : WindowEvent) (s : State) → (windowHappens e s .state .bytes ≡ s
 abbrev pub Window-busy : Type 0
 Window-busy = (s : State) → busy s ≡ true → ((o l : ℕ) → windowReadOf s o l ≡ replyAt (badWindow o) WINDOW-OFFSET l 0xFFFFFFFF) × ((o l v : ℕ) → windowWriteOf s o l v .state ≡ s)
 
--- ---- 7. how an address gets there: the offset of a claim of the translation window, of a multiple of 4, is an offset of the window
+-- ---- 7. an accepted read gives each enabled byte of the dword in its place, and FF in the lanes that aren't enabled; lanes 0 reads FFFFFFFF
+
+abbrev pub Window-lanes : Type 0
+Window-lanes = (s : State) (o l k : ℕ) → k < 4 → byteFor o (laneValue (windowReadBit s o) l) (o + k) ≡ (if enabled o l (o + k) then byteOf (λ (j : ℕ). windowReadBit s o (8 * k + j)) else 0xFF)
+
+abbrev pub Window-no-lanes : Type 0
+Window-no-lanes = (s : State) (o : ℕ) → laneValue (windowReadBit s o) 0 ≡ 0xFFFFFFFF
+
+-- ---- 8. how an address gets there: the offset of a claim of the translation window, of a multiple of 4, is an offset of the window
 
 abbrev pub Claimed-reached : Type 0
 Claimed-reached = (s : State) (a o : ℕ) → memoryClaimOf s a ≡ claimed translation o → a % 4 ≡ 0 → badWindow o ≡ false
