@@ -4,9 +4,6 @@ use second::probe::{self, Kind, Range};
 use second::refusal::Refusal;
 use second::twin::{Claim, Twin};
 use second::walk::{self, Walk};
-use twin::raw;
-
-use crate::lent::Lent;
 
 /// A call of one of the exported functions.
 #[derive(Clone, Debug, PartialEq, Eq)]
@@ -25,32 +22,6 @@ pub enum Call {
     Probe(u32, u32),
     /// `twin_walk`: bytes, wanted ID
     Walk(Vec<u8>, u8),
-}
-
-/// The archive's answer. A function that answers a number alone, or nothing,
-/// is taken as one whose value is 0.
-pub fn archive(lent: &mut Lent, call: &mut Call) -> u64 {
-    let s = lent.pointer();
-    // SAFETY: a whole record, aligned, that nothing else uses; and as many
-    // bytes as the length says.
-    unsafe {
-        match call {
-            Call::PlatformReset => {
-                raw::twin_platform_reset(s);
-                0
-            }
-            Call::Write(offset, lanes, value) => {
-                u64::from(raw::twin_write(s, *offset, *lanes, *value)) << 48
-            }
-            Call::WriteByValue(offset, lanes, value) => {
-                u64::from(raw::twin_write_by_value(s, *offset, *lanes, *value)) << 48
-            }
-            Call::Read(offset, lanes) => raw::twin_read(s, *offset, *lanes),
-            Call::Do(op, a, b, c) => raw::twin_do(s, *op, *a, *b, *c),
-            Call::Probe(low, high) => raw::twin_probe(*low, *high),
-            Call::Walk(bytes, wanted) => raw::twin_walk(bytes.as_ptr(), bytes.len(), *wanted),
-        }
-    }
 }
 
 /// The second program's answer, packed as the library packs it.

@@ -2,7 +2,6 @@
 
 use second::twin::Record;
 use second::window::Register;
-use twin::Twin;
 
 /// Bytes of a record.
 pub const SIZE: usize = 288;
@@ -33,8 +32,8 @@ impl Lent {
     }
 
     /// The record for the library.
-    pub fn pointer(&mut self) -> *mut Twin {
-        let pointer = self.record.as_mut_ptr().cast::<Twin>();
+    pub fn pointer(&mut self) -> *mut u8 {
+        let pointer = self.record.as_mut_ptr();
         assert_eq!(pointer as usize % 8, 4);
         pointer
     }
@@ -80,6 +79,17 @@ impl Lent {
             closed: self.record[LATCH + 4..BUSY].try_into().expect("3 bytes"),
             busy: self.record[BUSY],
             window: Register::ALL.map(|register| self.register(register)),
+        }
+    }
+
+    /// Makes the record hold these fields, all of its bytes.
+    pub fn store(&mut self, fields: &Record) {
+        self.record[..LATCH].copy_from_slice(&fields.bytes);
+        self.put_dword(LATCH, fields.latch);
+        self.record[LATCH + 4..BUSY].copy_from_slice(&fields.closed);
+        self.record[BUSY] = fields.busy;
+        for (register, number) in Register::ALL.into_iter().zip(fields.window) {
+            self.put_register(register, number);
         }
     }
 }

@@ -22,7 +22,8 @@ use lent::Lent;
 use make::{call, foreign};
 use tally::{Phase, Tally};
 
-/// What carries out a call on a lent record: the archive, or one with a fault.
+/// What carries out a call on a lent record: the archive, or a right library,
+/// with a fault or without.
 pub type Library<'a> = &'a dyn Fn(&mut Lent, &mut Call) -> u64;
 
 /// A call after which the two differ.

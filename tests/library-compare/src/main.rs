@@ -2,9 +2,11 @@
 //! many seeds from FIRST on (100 from 0 unless given). Status 1 tells of a
 //! difference, or of an answer that no call had; status 2 of a mistake in calling.
 
+mod archive;
+
 use std::process::ExitCode;
 
-use library_compare::{call::archive, compare, tally::Tally};
+use library_compare::{compare, tally::Tally};
 
 fn main() -> ExitCode {
     let numbers: Result<Vec<u64>, _> = std::env::args().skip(1).map(|word| word.parse()).collect();
@@ -18,7 +20,7 @@ fn main() -> ExitCode {
         }
     };
     let mut tally = Tally::default();
-    if let Err(difference) = compare(&archive, first..first + sessions, &mut tally) {
+    if let Err(difference) = compare(&archive::answer, first..first + sessions, &mut tally) {
         println!("{difference}");
         return ExitCode::FAILURE;
     }

@@ -1,11 +1,24 @@
-//! A comparison that finds nothing would pass as well: here it is given the
-//! archive with a fault, and must find it.
+//! A comparison that finds nothing would pass as well: here it is given a right
+//! library with a fault, and must find it. The right library isn't the archive,
+//! so that these tests run on any machine.
 
-use library_compare::call::{archive, Call};
+use library_compare::call::{answer, Call};
 use library_compare::lent::{Lent, BUSY, SIZE};
+use library_compare::make::foreign;
 use library_compare::tally::Tally;
 use library_compare::{compare, session, Library};
+use second::rng::Rng;
+use second::twin::Twin;
 use second::window::Register;
+
+/// A right library: the call carried out on the second program's twin, which is
+/// made of the lent record and stored back into it.
+fn right(lent: &mut Lent, call: &mut Call) -> u64 {
+    let mut twin = Twin::of_record(&lent.fields());
+    let answer = answer(&mut twin, call);
+    lent.store(&twin.record());
+    answer
+}
 
 /// Whether the made sessions alone find the fault.
 fn sessions_find(library: Library) -> bool {
@@ -41,12 +54,12 @@ fn is_busy(lent: &Lent) -> bool {
     lent.fields().busy != 0
 }
 
-/// The archive, with what a fault does to the record where a call starts a
+/// A right library, with what a fault does to the record where a call starts a
 /// function reset.
 fn at_a_start(fault: impl Fn(&mut Lent)) -> impl Fn(&mut Lent, &mut Call) -> u64 {
     move |lent, call| {
         let was_busy = is_busy(lent);
-        let answer = archive(lent, call);
+        let answer = right(lent, call);
         if !was_busy && is_busy(lent) {
             fault(lent);
         }
@@ -54,12 +67,12 @@ fn at_a_start(fault: impl Fn(&mut Lent)) -> impl Fn(&mut Lent, &mut Call) -> u64
     }
 }
 
-/// The archive, with what a fault does to the record where an end signal ends
-/// one; it is given the record before too.
+/// A right library, with what a fault does to the record where an end signal
+/// ends one; it is given the record before too.
 fn at_an_end(fault: impl Fn(&mut Lent, &mut Lent)) -> impl Fn(&mut Lent, &mut Call) -> u64 {
     move |lent, call| {
         let mut before = *lent;
-        let answer = archive(lent, call);
+        let answer = right(lent, call);
         if matches!(call, Call::Do(10, ..)) && is_busy(&before) {
             fault(&mut before, lent);
         }
@@ -67,26 +80,26 @@ fn at_an_end(fault: impl Fn(&mut Lent, &mut Lent)) -> impl Fn(&mut Lent, &mut Ca
     }
 }
 
-/// The archive, but such calls are carried out as if no function reset ran;
+/// A right library, but such calls are carried out as if no function reset ran;
 /// the busy byte stays.
 fn deaf_to_busy(such: impl Fn(&Call) -> bool) -> impl Fn(&mut Lent, &mut Call) -> u64 {
     move |lent, call| {
         let busy = *lent.byte(BUSY);
         if busy == 0 || !such(call) {
-            return archive(lent, call);
+            return right(lent, call);
         }
         *lent.byte(BUSY) = 0;
-        let answer = archive(lent, call);
+        let answer = right(lent, call);
         *lent.byte(BUSY) = busy;
         answer
     }
 }
 
-/// The archive, but such calls change nothing while a function reset runs.
+/// A right library, but such calls change nothing while a function reset runs.
 fn dropped_while_busy(such: impl Fn(&Call) -> bool) -> impl Fn(&mut Lent, &mut Call) -> u64 {
     move |lent, call| {
         let before = *lent;
-        let answer = archive(lent, call);
+        let answer = right(lent, call);
         if such(call) && is_busy(&before) {
             *lent = before;
         }
@@ -102,10 +115,10 @@ fn undriven(lanes: u32) -> u64 {
         .sum()
 }
 
-/// The archive, but such reads give 00 in the lanes that aren't enabled.
+/// A right library, but such reads give 00 in the lanes that aren't enabled.
 fn undriven_as_zeros(such: impl Fn(&Call) -> bool) -> impl Fn(&mut Lent, &mut Call) -> u64 {
     move |lent, call| {
-        let answer = archive(lent, call);
+        let answer = right(lent, call);
         match *call {
             _ if refused(answer) || !such(call) => answer,
             Call::Read(_, lanes) | Call::Do(2 | 12, _, lanes, _) => answer & !undriven(lanes),
@@ -117,10 +130,10 @@ fn undriven_as_zeros(such: impl Fn(&Call) -> bool) -> impl Fn(&mut Lent, &mut Ca
 /// The mirrors in the window.
 const MIRRORS: [Register; 3] = [Register::Mtouud, Register::MtouudHigh, Register::Mbdsm];
 
-/// The archive, but where the operation `op` is accepted it makes of a register
-/// what the rule says, from what it held and the call's arguments. An operation
-/// with an offset does so where that is the register's; what a busy function
-/// drops stays dropped.
+/// A right library, but where the operation `op` is accepted it makes of a
+/// register what the rule says, from what it held and the call's arguments. An
+/// operation with an offset does so where that is the register's; what a busy
+/// function drops stays dropped.
 fn remade(
     op: u32,
     register: Register,
@@ -129,7 +142,7 @@ fn remade(
     move |lent, call| {
         let held = lent.register(register);
         let drops = op == 11 && is_busy(lent);
-        let answer = archive(lent, call);
+        let answer = right(lent, call);
         if let Call::Do(done, a, b, c) = *call {
             let there = !matches!(op, 11 | 16) || a == register.offset();
             if done == op && there && !drops && !refused(answer) {
@@ -161,14 +174,14 @@ fn requested_as(rule: impl Fn(u32, u32, u32) -> u32) -> impl Fn(&mut Lent, &mut 
     })
 }
 
-/// The archive, but it answers such calls otherwise; the record stays as it is
-/// before the call.
+/// A right library, but it answers such calls otherwise; the record stays as it
+/// is before the call.
 fn answered_otherwise(
     otherwise: impl Fn(&Lent, &Call, u64) -> Option<u64>,
 ) -> impl Fn(&mut Lent, &mut Call) -> u64 {
     move |lent, call| {
         let before = *lent;
-        let answer = archive(lent, call);
+        let answer = right(lent, call);
         match otherwise(&before, call, answer) {
             Some(other) => {
                 *lent = before;
@@ -187,14 +200,35 @@ fn clear_window(lent: &mut Lent) {
 
 #[test]
 fn no_fault_is_not_found() {
-    assert!(!sessions_find(&archive));
-    assert!(!sweeps_find(&archive));
+    assert!(!sessions_find(&right));
+    assert!(!sweeps_find(&right));
+}
+
+#[test]
+fn every_answer_is_met_without_a_fault() {
+    let mut tally = Tally::default();
+    compare(&right, 0..100, &mut tally).expect("no difference");
+    let faults = tally.faults();
+    assert!(faults.is_empty(), "{faults:#?}");
+}
+
+/// A right library that loses something of a foreign record would hide a fault
+/// that does the same.
+#[test]
+fn a_foreign_record_is_stored_whole() {
+    let mut rng = Rng::new(0);
+    for _ in 0..1000 {
+        let before = foreign(&mut rng);
+        let mut after = Lent::new([0x77; SIZE]);
+        after.store(&Twin::of_record(&before.fields()).record());
+        assert!(after == before, "{:X?}", before.fields());
+    }
 }
 
 #[test]
 fn a_guest_mask_with_one_bit_more() {
     found_by_both(&|lent, call| {
-        let answer = archive(lent, call);
+        let answer = right(lent, call);
         if let Some((0x04, lanes, value)) = written(call, answer) {
             if lanes & 2 != 0 {
                 let byte = lent.byte(0x05);
@@ -234,9 +268,9 @@ fn a_start_that_clears_the_held_bit() {
 fn a_function_reset_within_the_write() {
     found_by_both(&|lent, call| {
         let was_busy = is_busy(lent);
-        let answer = archive(lent, call);
+        let answer = right(lent, call);
         if !was_busy && is_busy(lent) {
-            archive(lent, &mut Call::Do(10, 0, 0, 0));
+            right(lent, &mut Call::Do(10, 0, 0, 0));
         }
         answer
     });
@@ -282,7 +316,7 @@ fn an_end_signal_that_resets_where_none_runs() {
         if matches!(call, Call::Do(10, ..)) {
             *lent.byte(BUSY) = 1;
         }
-        archive(lent, call)
+        right(lent, call)
     });
 }
 
@@ -290,7 +324,7 @@ fn an_end_signal_that_resets_where_none_runs() {
 fn an_end_signal_that_looks_at_its_arguments() {
     found_by_both(&|lent, call| match call {
         Call::Do(10, a, ..) if *a > 0xFF => 9 << 48,
-        _ => archive(lent, call),
+        _ => right(lent, call),
     });
 }
 
@@ -298,7 +332,7 @@ fn an_end_signal_that_looks_at_its_arguments() {
 fn a_platform_reset_that_leaves_busy() {
     found_by_both(&|lent, call| {
         let busy = *lent.byte(BUSY);
-        let answer = archive(lent, call);
+        let answer = right(lent, call);
         if matches!(call, Call::PlatformReset | Call::Do(0, ..)) {
             *lent.byte(BUSY) = busy;
         }
@@ -310,7 +344,7 @@ fn a_platform_reset_that_leaves_busy() {
 fn a_busy_write_that_closes() {
     found_by_both(&|lent, call| {
         let was_busy = is_busy(lent);
-        let answer = archive(lent, call);
+        let answer = right(lent, call);
         if let Some((0x2C, lanes, _)) = written(call, answer) {
             if was_busy && lanes & 0x3 != 0 {
                 *lent.byte(260) = 1;
@@ -335,7 +369,7 @@ fn a_busy_port_write_that_is_stored() {
 #[test]
 fn a_busy_write_that_makes_a_foreign_busy_byte_1() {
     found_by_both(&|lent, call| {
-        let answer = archive(lent, call);
+        let answer = right(lent, call);
         if written(call, answer).is_some() {
             let busy = lent.byte(BUSY);
             *busy = (*busy).min(1);
@@ -348,7 +382,7 @@ fn a_busy_write_that_makes_a_foreign_busy_byte_1() {
 fn a_busy_write_that_is_not_refused() {
     found_by_both(&|lent, call| {
         let was_busy = is_busy(lent);
-        let answer = archive(lent, call);
+        let answer = right(lent, call);
         match call {
             Call::Write(..) if was_busy => 0,
             _ => answer,
@@ -361,10 +395,10 @@ fn a_busy_byte_of_which_one_bit_counts() {
     found_by_both(&|lent, call| {
         let busy = *lent.byte(BUSY);
         if busy & 1 == 1 || !matches!(call, Call::Read(..)) {
-            return archive(lent, call);
+            return right(lent, call);
         }
         *lent.byte(BUSY) = 0;
-        let answer = archive(lent, call);
+        let answer = right(lent, call);
         *lent.byte(BUSY) = busy;
         answer
     });
@@ -391,7 +425,7 @@ fn a_read_with_zeros_in_lanes_that_are_not_enabled() {
 fn a_busy_read_with_zeros_in_lanes_that_are_not_enabled() {
     found_by_both(&|lent, call| {
         let was_busy = is_busy(lent);
-        let answer = archive(lent, call);
+        let answer = right(lent, call);
         match *call {
             Call::Read(_, lanes) if was_busy && !refused(answer) => answer & !undriven(lanes),
             _ => answer,
@@ -410,7 +444,7 @@ fn lanes_0_that_read_0() {
 #[test]
 fn a_refused_read_of_ones() {
     found_by_both(&|lent, call| {
-        let answer = archive(lent, call);
+        let answer = right(lent, call);
         match call {
             Call::Read(..) if refused(answer) => answer | u64::from(u32::MAX),
             _ => answer,
@@ -421,7 +455,7 @@ fn a_refused_read_of_ones() {
 #[test]
 fn a_port_read_with_ones_above_the_width() {
     found_by_both(&|lent, call| {
-        let answer = archive(lent, call);
+        let answer = right(lent, call);
         match *call {
             Call::Do(5, 0xCFC.., width @ (1 | 2), _) if !refused(answer) && !is_busy(lent) => {
                 answer | u64::from(u32::MAX << (8 * width))
@@ -434,7 +468,7 @@ fn a_port_read_with_ones_above_the_width() {
 #[test]
 fn a_port_read_that_is_a_direct_read_moved_down() {
     found_by_both(&|lent, call| {
-        let answer = archive(lent, call);
+        let answer = right(lent, call);
         match *call {
             Call::Do(5, port @ 0xCFC.., width, _) if !refused(answer) => {
                 let first = port - 0xCFC;
@@ -450,7 +484,7 @@ fn a_port_read_that_is_a_direct_read_moved_down() {
 fn a_busy_port_read_with_ones_above_the_width() {
     found_by_both(&|lent, call| {
         let was_busy = is_busy(lent);
-        let answer = archive(lent, call);
+        let answer = right(lent, call);
         match call {
             Call::Do(5, 0xCFC.., ..) if was_busy && !refused(answer) => u32::MAX.into(),
             _ => answer,
@@ -484,7 +518,7 @@ fn a_latch_that_is_not_stored_while_busy() {
 #[test]
 fn a_foreign_flag_made_1_by_any_write() {
     found_by_both(&|lent, call| {
-        let answer = archive(lent, call);
+        let answer = right(lent, call);
         if written(call, answer).is_some() {
             let flag = lent.byte(262);
             *flag = (*flag).min(1);
@@ -497,7 +531,7 @@ fn a_foreign_flag_made_1_by_any_write() {
 fn a_flag_that_a_write_leaves_foreign() {
     found_by_both(&|lent, call| {
         let before = *lent.byte(261);
-        let answer = archive(lent, call);
+        let answer = right(lent, call);
         if written(call, answer).is_some() && before != 0 {
             *lent.byte(261) = before;
         }
@@ -508,7 +542,7 @@ fn a_flag_that_a_write_leaves_foreign() {
 #[test]
 fn a_busy_byte_changed_by_a_refusal() {
     found_by_both(&|lent, call| {
-        let answer = archive(lent, call);
+        let answer = right(lent, call);
         if refused(answer) {
             *lent.byte(BUSY) ^= 1;
         }
@@ -519,7 +553,7 @@ fn a_busy_byte_changed_by_a_refusal() {
 #[test]
 fn a_byte_behind_the_record() {
     found_by_both(&|lent, call| {
-        let answer = archive(lent, call);
+        let answer = right(lent, call);
         if written(call, answer).is_some() {
             *lent.byte(SIZE) = 0;
         }
@@ -530,7 +564,7 @@ fn a_byte_behind_the_record() {
 #[test]
 fn a_read_that_changes_the_latch() {
     found_by_both(&|lent, call| {
-        let answer = archive(lent, call);
+        let answer = right(lent, call);
         if matches!(call, Call::Do(5, 0xCFC, ..)) {
             *lent.byte(256) ^= 4;
         }
@@ -541,7 +575,7 @@ fn a_read_that_changes_the_latch() {
 #[test]
 fn lanes_refused_before_the_offset() {
     found_by_both(&|lent, call| {
-        let answer = archive(lent, call);
+        let answer = right(lent, call);
         match call {
             Call::Write(_, lanes, _) if *lanes > 15 => 6 << 48,
             _ => answer,
@@ -553,7 +587,7 @@ fn lanes_refused_before_the_offset() {
 fn a_write_in_place_that_is_dropped() {
     found_by_both(&|lent, call| {
         let before = *lent;
-        let answer = archive(lent, call);
+        let answer = right(lent, call);
         if matches!(call, Call::Write(0xE4, ..)) {
             *lent = before;
         }
@@ -565,7 +599,7 @@ fn a_write_in_place_that_is_dropped() {
 fn a_write_by_value_that_is_dropped() {
     found_by_both(&|lent, call| {
         let before = *lent;
-        let answer = archive(lent, call);
+        let answer = right(lent, call);
         if matches!(call, Call::WriteByValue(0x18, ..)) {
             *lent = before;
         }
@@ -577,23 +611,23 @@ fn a_write_by_value_that_is_dropped() {
 fn a_port_cut_to_16_bits() {
     found_by_both(&|lent, call| match call {
         Call::Do(5, port, width, c) if *port > 0xFFFF => {
-            archive(lent, &mut Call::Do(5, *port & 0xFFFF, *width, *c))
+            right(lent, &mut Call::Do(5, *port & 0xFFFF, *width, *c))
         }
-        _ => archive(lent, call),
+        _ => right(lent, call),
     });
 }
 
 #[test]
 fn an_operation_cut_to_8_bits() {
     found_by_both(&|lent, call| match call {
-        Call::Do(op, a, b, c) if *op > 0xFF => archive(lent, &mut Call::Do(*op & 0xFF, *a, *b, *c)),
-        _ => archive(lent, call),
+        Call::Do(op, a, b, c) if *op > 0xFF => right(lent, &mut Call::Do(*op & 0xFF, *a, *b, *c)),
+        _ => right(lent, call),
     });
 }
 
 #[test]
 fn a_walk_of_49_items() {
-    found_by_both(&|lent, call| match archive(lent, call) {
+    found_by_both(&|lent, call| match right(lent, call) {
         0x000B_0000_0000_0030 => 0x000B_0000_0000_0031,
         answer => answer,
     });
@@ -602,7 +636,7 @@ fn a_walk_of_49_items() {
 #[test]
 fn a_walk_that_changes_its_bytes() {
     found_by_both(&|lent, call| {
-        let answer = archive(lent, call);
+        let answer = right(lent, call);
         if let Call::Walk(bytes, _) = call {
             if let Some(byte) = bytes.get_mut(0x34) {
                 *byte &= 0xFC;
@@ -615,7 +649,7 @@ fn a_walk_that_changes_its_bytes() {
 #[test]
 fn an_aperture_tested_by_base_and_size() {
     let library = |lent: &mut Lent, call: &mut Call| {
-        let answer = archive(lent, call);
+        let answer = right(lent, call);
         let top = matches!(call, Call::Do(6, _, u32::MAX, _));
         if top && answer >> 32 == 2 {
             return 0;
@@ -846,9 +880,9 @@ fn a_window_offset_cut_to_22_bits() {
     for op in [11, 12, 16] {
         found_by_both(&|lent, call| match *call {
             Call::Do(done, offset, b, c) if done == op && offset % 4 == 0 => {
-                archive(lent, &mut Call::Do(op, offset & 0x3F_FFFF, b, c))
+                right(lent, &mut Call::Do(op, offset & 0x3F_FFFF, b, c))
             }
-            _ => archive(lent, call),
+            _ => right(lent, call),
         });
     }
 }
@@ -858,9 +892,9 @@ fn an_unaligned_window_offset_that_is_rounded() {
     for op in [11, 12, 16] {
         found_by_both(&|lent, call| match *call {
             Call::Do(done, offset, b, c) if done == op => {
-                archive(lent, &mut Call::Do(op, offset & !3, b, c))
+                right(lent, &mut Call::Do(op, offset & !3, b, c))
             }
-            _ => archive(lent, call),
+            _ => right(lent, call),
         });
     }
 }
@@ -871,9 +905,9 @@ fn an_offset_of_which_a_bit_does_not_count() {
         let library = |lent: &mut Lent, call: &mut Call| match *call {
             Call::Do(12, offset, lanes, c) if Register::at(offset).is_none() => {
                 let beside = Register::at(offset ^ 1 << place).map_or(offset, Register::offset);
-                archive(lent, &mut Call::Do(12, beside, lanes, c))
+                right(lent, &mut Call::Do(12, beside, lanes, c))
             }
-            _ => archive(lent, call),
+            _ => right(lent, call),
         };
         assert!(sweeps_find(&library), "the sweeps miss bit {place}");
     }
@@ -896,7 +930,7 @@ fn a_window_read_with_zeros_in_lanes_that_are_not_enabled() {
 #[test]
 fn a_window_read_that_clears_what_it_shows() {
     found_by_both(&|lent, call| {
-        let answer = archive(lent, call);
+        let answer = right(lent, call);
         if matches!(call, Call::Do(12, 0x04094, ..)) && !refused(answer) {
             lent.put_register(Register::FaultReg, 0);
         }
@@ -946,7 +980,7 @@ fn a_platform_reset_that_leaves_a_register() {
     for register in Register::ALL {
         found_by_both(&|lent, call| {
             let held = lent.register(register);
-            let answer = archive(lent, call);
+            let answer = right(lent, call);
             if matches!(call, Call::PlatformReset | Call::Do(0, ..)) {
                 lent.put_register(register, held);
             }
@@ -959,7 +993,7 @@ fn a_platform_reset_that_leaves_a_register() {
 fn a_configuration_write_that_changes_the_window() {
     for register in Register::ALL {
         found_by_both(&|lent, call| {
-            let answer = archive(lent, call);
+            let answer = right(lent, call);
             if let Some((0x10, _, value)) = written(call, answer) {
                 lent.put_register(register, value);
             }
@@ -971,7 +1005,7 @@ fn a_configuration_write_that_changes_the_window() {
 #[test]
 fn a_register_changed_by_a_refusal() {
     found_by_both(&|lent, call| {
-        let answer = archive(lent, call);
+        let answer = right(lent, call);
         if refused(answer) {
             *lent.byte(SIZE - 1) ^= 0x80;
         }
