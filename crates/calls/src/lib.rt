@@ -1,43 +1,13 @@
-// A console line: one of the player's lines, or a call of another entry.
+// A console line taken apart: one of the player's lines, or a call of another entry.
 ghost use mathlib.Core.Path.{_≡_};
 ghost use Prim.Native.Nat.{_+_, _<_, _≤_};
 ghost use lib.ListN.{length};
-ghost use Rattle.calls.specs.Call.{hexFrom, fieldOf, oneOf, twoOf, threeOf, with1, with2, with3, byLetterOf, callOf};
-use lines::Command;
-
-// The numbers of a line, in hex: one of up to 16 digits, two or three of up to 8.
-pub enum Hex {
-    Value(u64),
-    Bad,
-}
-
-pub enum Pair {
-    Values(u32, u32),
-    Bad,
-}
-
-pub enum Triple {
-    Values(u32, u32, u32),
-    Bad,
-}
-
-// A line of the player's, or `O pppp w vvvvvvvv`, `I pppp w`, `A aaaaaaaaaaaaaaaa`, `N pppp`, `S llllllll hhhhhhhh`, `K ii`,
-// `V oooooo l vvvvvvvv`, `U oooooo l`, `C mmmmmmmm`, `F vvvvvvvv`, `T nnnnnnnn`, `Y oooooo mmmmmmmm vvvvvvvv`.
-pub enum Call {
-    Line(Command),
-    PortWrite(u16, u32, u32),
-    PortRead(u16, u32),
-    Memory(u64),
-    Port(u16),
-    Probe(u32, u32),
-    Walk(u8),
-    WindowWrite(u32, u32, u32),
-    WindowRead(u32, u32),
-    Complete(u32),
-    Fault(u32),
-    Cycles(u32),
-    Mirror(u32, u32, u32),
-}
+ghost use Rattle.call_forms.specs.Call.{hexFrom, fieldOf, oneOf, twoOf, threeOf, with1, with2, with3, byLetterOf, callOf};
+use call_forms::Call;
+use call_forms::Hex;
+use call_forms::Pair;
+use call_forms::Triple;
+use forms::Command;
 
 // The number of k digits in upper-case hex from place `at` on.
 fn number(s: &[u8], at: usize, k: usize) -> Hex

@@ -3,7 +3,7 @@ use mathlib.Core.List.{List, [], _∷_, _++_}
 use Prim.Native.Nat.{ℕ, zero, suc, _+_, _*_, _/_, _%_}
 use lib.ListN.{getD}
 use Rattle.bits.specs.Choice.{if_then_else_, _is_, _<?_}
-use Rattle.lines.specs.Ascii.{ascii}
+use Rattle.forms.specs.Ascii.{ascii}
 
 -- a digit in lower-case hex: 0 is 48, a is 97
 unfoldable pub lowOf : ℕ → ℕ

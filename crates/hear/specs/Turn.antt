@@ -3,7 +3,7 @@ use mathlib.Core.Bool.{Bool}
 use mathlib.Core.List.{List}
 use Prim.Native.Nat.{ℕ}
 use Rattle.rules.specs.declared.State.{State}
-use Rattle.play.specs.Turn as T
+use Rattle.session.specs.Turn as T
 use Rattle.talk.specs.Console.{lineNext, lineSay}
 
 abbrev pub Turned : Bool → State → List ℕ → State → List ℕ → List ℕ → Type 0

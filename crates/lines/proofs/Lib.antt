@@ -1,5 +1,1 @@
-pub mod Long
-pub mod Digits
-pub mod Exactly
-pub mod Forms
 mod Which

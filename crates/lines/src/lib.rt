@@ -1,16 +1,7 @@
-// A session line: the command that it is, where it is of one of the five forms.
+// A session line taken apart: the command that it is, where it is of one of the five forms.
 ghost use mathlib.Core.Path.{_≡_};
-ghost use Rattle.lines.specs.Line.{digitOf, pairOf, writeCommandOf, readCommandOf, hostCommandOf, commandOf};
-
-// `W oo l vvvvvvvv`, `R oo l`, `H oo mm vv`, `P`, `E`, or none of these.
-pub enum Command {
-    Write(u32, u32, u32),
-    Read(u32, u32),
-    Host(u32, u8, u8),
-    Reset,
-    End,
-    Bad,
-}
+ghost use Rattle.forms.specs.Line.{digitOf, pairOf, writeCommandOf, readCommandOf, hostCommandOf, commandOf};
+use forms::Command;
 
 // The digit that a byte is, in upper-case hex, or 16.
 pub fn digit(b: u8) -> u8

@@ -10,18 +10,18 @@ use Rattle.rules.specs.Fresh.{freshOf}
 use Rattle.rules.specs.Events.{happens}
 use Rattle.rules.specs.Events as E
 use Rattle.rules.proofs.Good.{Good, fresh-good, event-good}
-use Rattle.lines.specs.declared.Command.{Command}
-use Rattle.lines.specs.declared.Command.the-variants.{Write, Read, Host, Reset, End, Bad}
-use Rattle.lines.specs.Line.{commandOf}
-use Rattle.lines.proofs.Long.{begin-alike}
+use Rattle.forms.specs.declared.Command.{Command}
+use Rattle.forms.specs.declared.Command.the-variants.{Write, Read, Host, Reset, End, Bad}
+use Rattle.forms.specs.Line.{commandOf}
+use Rattle.forms.proofs.Long.{begin-alike}
 use Rattle.writes.proofs.Bridge.{write-is}
 use Rattle.reads.proofs.Bridge.{read-is}
 use Rattle.resets.proofs.Bridge.{end-is}
 use Rattle.updates.proofs.Bridge.{update-is}
-use Rattle.play.specs.Session.{answers, allLines, joins, blocksText}
+use Rattle.session.specs.Session.{answers, allLines, joins, blocksText}
 use Rattle.play.specs.Box.{Box, box, boxNext, boxSay, lineBox, lineText}
 use Rattle.play.specs.Player.{replyText, valueTextOf, nextOf, sayOf, lineNext, lineSay, playerOf}
-use Rattle.play.proofs.Blocks.{in-blocks}
+use Rattle.session.proofs.Blocks.{in-blocks}
 
 -- ---- a state's bytes and flags, under the map's tables
 

@@ -10,9 +10,9 @@ use Rattle.reads.specs.Shown.{readLanes}
 use Rattle.writes.specs.Bytes.{writeLanes}
 use Rattle.resets.specs.Bytes.{endBytes, endFlags}
 use Rattle.updates.specs.Update as U
-use Rattle.lines.specs.declared.Command.{Command}
-use Rattle.lines.specs.declared.Command.the-variants.{Write, Read, Host, Reset, End, Bad}
-use Rattle.lines.specs.Line.{commandOf}
+use Rattle.forms.specs.declared.Command.{Command}
+use Rattle.forms.specs.declared.Command.the-variants.{Write, Read, Host, Reset, End, Bad}
+use Rattle.forms.specs.Line.{commandOf}
 use Rattle.texts.specs.Text.{okText, noText}
 use Rattle.play.specs.Player.{replyText, valueTextOf}
 

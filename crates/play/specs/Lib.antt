@@ -1,4 +1,2 @@
-pub mod Session
-pub mod Turn
 pub mod Box
 pub mod Player

@@ -7,11 +7,11 @@ use Rattle.rules.specs.declared.State.{State}
 use Rattle.rules.specs.Fresh.{freshOf}
 use Rattle.rules.specs.Events.{happens}
 use Rattle.rules.specs.Events as E
-use Rattle.lines.specs.declared.Command.{Command}
-use Rattle.lines.specs.declared.Command.the-variants.{Write, Read, Host, Reset, End, Bad}
-use Rattle.lines.specs.Line.{commandOf}
+use Rattle.forms.specs.declared.Command.{Command}
+use Rattle.forms.specs.declared.Command.the-variants.{Write, Read, Host, Reset, End, Bad}
+use Rattle.forms.specs.Line.{commandOf}
 use Rattle.texts.specs.Text.{okText, noText, valueText}
-use Rattle.play.specs.Session.{allLines, answers}
+use Rattle.session.specs.Session.{allLines, answers}
 
 -- ---- answers
 

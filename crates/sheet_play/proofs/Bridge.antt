@@ -15,17 +15,17 @@ use Rattle.bits.proofs.Places.{length-bytes, at-each, first-say-all}
 use Rattle.answer.specs.Refusals.{Reply}
 use Rattle.rules.specs.Access.{enabled, byteFor, badOffset, badLanes}
 use Rattle.rules.specs.Plain.{Bits, under, held, outside, writtenBit, updatedBit}
-use Rattle.lines.specs.declared.Command.{Command}
-use Rattle.lines.specs.declared.Command.the-variants.{Write, Read, Host, Reset, End, Bad}
-use Rattle.lines.specs.Line.{commandOf}
-use Rattle.lines.proofs.Long.{begin-alike}
+use Rattle.forms.specs.declared.Command.{Command}
+use Rattle.forms.specs.declared.Command.the-variants.{Write, Read, Host, Reset, End, Bad}
+use Rattle.forms.specs.Line.{commandOf}
+use Rattle.forms.proofs.Long.{begin-alike}
 use Rattle.plain.specs.Bytes.{returnedOf}
 use Rattle.updates.specs.Update.{lent}
 use Rattle.device.specs.declared.Tables.{Tables}
 use Rattle.device.specs.Device.{made, writeOf, hostOf, functionResetOf}
 use Rattle.device.proofs.Bridge.{read-is, write-is, update-is, reset-is}
-use Rattle.play.specs.Session.{answers, allLines, joins, blocksText}
-use Rattle.play.proofs.Blocks.{in-blocks}
+use Rattle.session.specs.Session.{answers, allLines, joins, blocksText}
+use Rattle.session.proofs.Blocks.{in-blocks}
 use Rattle.sheet_play.specs.Box.{Box, box, boxNext, boxSay, lineBox, lineText}
 use Rattle.sheet_play.specs.Player.{isZ, nextOf, sayOf, lineNext, lineSay, sheetPlayerOf}
 

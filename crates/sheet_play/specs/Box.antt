@@ -3,9 +3,9 @@ use mathlib.Core.List.{List}
 use Prim.Native.Nat.{ℕ}
 use Rattle.bits.specs.Choice.{if_then_else_}
 use Rattle.answer.specs.Refusals.{LINE}
-use Rattle.lines.specs.declared.Command.{Command}
-use Rattle.lines.specs.declared.Command.the-variants.{Write, Read, Host, Reset, End, Bad}
-use Rattle.lines.specs.Line.{commandOf}
+use Rattle.forms.specs.declared.Command.{Command}
+use Rattle.forms.specs.declared.Command.the-variants.{Write, Read, Host, Reset, End, Bad}
+use Rattle.forms.specs.Line.{commandOf}
 use Rattle.texts.specs.Text.{okText, noText}
 use Rattle.play.specs.Player.{replyText, valueTextOf}
 use Rattle.plain.specs.Bytes.{returnedOf}

@@ -5,13 +5,13 @@ use Prim.Native.Nat.{ℕ}
 use lib.ListN.{length}
 use Rattle.bits.specs.Choice.{if_then_else_, _and_, _is_}
 use Rattle.answer.specs.Refusals.{LINE}
-use Rattle.lines.specs.Ascii.{letter}
-use Rattle.lines.specs.declared.Command.{Command}
-use Rattle.lines.specs.declared.Command.the-variants.{Write, Read, Host, Reset, End, Bad}
-use Rattle.lines.specs.Line.{at, commandOf}
+use Rattle.forms.specs.Ascii.{letter}
+use Rattle.forms.specs.declared.Command.{Command}
+use Rattle.forms.specs.declared.Command.the-variants.{Write, Read, Host, Reset, End, Bad}
+use Rattle.forms.specs.Line.{at, commandOf}
 use Rattle.texts.specs.Text.{okText, noText}
 use Rattle.play.specs.Player.{replyText, valueTextOf}
-use Rattle.play.specs.Session.{allLines, answers}
+use Rattle.session.specs.Session.{allLines, answers}
 use Rattle.device.specs.declared.Tables.{Tables}
 use Rattle.device.specs.Device.{readOf, writeOf, hostOf, functionResetOf}
 

@@ -4,10 +4,10 @@ ghost use mathlib.Core.List.{[], _++_};
 ghost use Prim.Native.Nat.{_+_, _*_, _≤_};
 ghost use lib.ListN.{length, take, drop};
 ghost use Rattle.texts.specs.Text.{textOf};
-ghost use Rattle.play.specs.Session.{played, playText};
+ghost use Rattle.session.specs.Session.{played, playText};
 ghost use Rattle.sheet_play.specs.Player.{isZ};
 ghost use Rattle.sheet_play.specs.Box.{box, boxNext, boxSay, lineBox, lineText};
-use lines::Command;
+use forms::Command;
 use texts::Said;
 
 // `Z` alone is the function reset.

@@ -8,7 +8,7 @@ use lib.ListN.{length, getD}
 use Rattle.bits.specs.Choice.{pick}
 use Rattle.bits.specs.Places.{bytes}
 use Rattle.bits.proofs.Places.{length-bytes, at-each}
-use Rattle.play.specs.Session.{joins, blocksText}
+use Rattle.session.specs.Session.{joins, blocksText}
 use Rattle.sheet.specs.Sheet.{entries, DEFAULT}
 use Rattle.sheets.specs.Check.{accepts, checkOf}
 use Rattle.sheets.specs.Tables.{cellIn, tableOf, tables, tablesOf}

@@ -2,7 +2,7 @@
 use mathlib.Core.Bool.{Bool}
 use mathlib.Core.List.{List}
 use Prim.Native.Nat.{ℕ}
-use Rattle.play.specs.Turn as T
+use Rattle.session.specs.Turn as T
 use Rattle.sheet_play.specs.Box.{Box, lineBox, lineText}
 
 abbrev pub Turned : Bool → Box → List ℕ → Box → List ℕ → List ℕ → Type 0

@@ -3,8 +3,8 @@ use mathlib.Core.List.{List, [], _++_}
 use Prim.Native.Nat.{ℕ, zero, suc, _+_, _-_, _*_, _/_, _%_}
 use Rattle.bits.specs.Choice.{if_then_else_, _is_, _<?_}
 use Rattle.bits.specs.Places.{from}
-use Rattle.lines.specs.Ascii.{ascii, letter}
-use Rattle.lines.specs.Hex.{upOf}
+use Rattle.forms.specs.Ascii.{ascii, letter}
+use Rattle.forms.specs.Hex.{upOf}
 use Rattle.sheet.specs.Sheet.{at, entries, offsetOf, lengthOf, startOf}
 
 -- two columns for the offset, five for the length, and sixteen for each number behind two spaces

@@ -2,7 +2,7 @@
 ghost use mathlib.Core.Path.{_≡_};
 ghost use Prim.Native.Nat.{_+_, _*_, _<_, _≤_};
 ghost use lib.ListN.{length, take};
-ghost use Rattle.lines.specs.Hex.{upOf};
+ghost use Rattle.forms.specs.Hex.{upOf};
 ghost use Rattle.sheet.specs.Sheet.{at, lengthOf, startOf};
 ghost use Rattle.sheet_rows.specs.Row.{heading, digitOf, columnOf, charOf, rowText, tableText};
 

@@ -5,7 +5,7 @@ use Prim.Native.Nat.{ℕ}
 use Rattle.rules.specs.declared.State.{State}
 use Rattle.rules.specs.Fresh.{freshOf}
 use Rattle.rules.specs.Read.{imageOf}
-use Rattle.play.specs.Session.{joins, blocksState}
+use Rattle.session.specs.Session.{joins, blocksState}
 use Rattle.talk.specs.Console.{lineNext, lineSay}
 use Rattle.talk.proofs.Console.{console-after}
 use Rattle.dumps.specs.Dump.{dumpText}

@@ -3,7 +3,7 @@ use mathlib.Core.List.{List}
 use Prim.Native.Nat.{ℕ}
 use Rattle.rules.specs.Fresh.{freshOf}
 use Rattle.rules.specs.Read.{imageOf}
-use Rattle.play.specs.Session.{allLines, after}
+use Rattle.session.specs.Session.{allLines, after}
 use Rattle.talk.specs.Console.{lineNext, lineSay}
 use Rattle.dumps.specs.Dump.{dumpText}
 

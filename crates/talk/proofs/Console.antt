@@ -6,9 +6,9 @@ use native.Mathlib.Omega.{arith}
 use lib.ListN.{take}
 use Rattle.rules.specs.declared.State.{State}
 use Rattle.rules.specs.Fresh.{freshOf}
-use Rattle.calls.proofs.Long.{begin-alike}
-use Rattle.play.specs.Session.{joins, allLines, blocksText, after, blocksState}
-use Rattle.play.proofs.Blocks.{in-blocks, after-blocks}
+use Rattle.call_forms.proofs.Long.{begin-alike}
+use Rattle.session.specs.Session.{joins, allLines, blocksText, after, blocksState}
+use Rattle.session.proofs.Blocks.{in-blocks, after-blocks}
 use Rattle.talk.specs.Console.{callNext, callSay, lineNext, lineSay, consoleOf}
 
 -- the first 27 bytes of a line say all

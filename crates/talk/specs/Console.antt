@@ -11,11 +11,11 @@ use Rattle.texts.specs.Text.{okText}
 use Rattle.probe.specs.Probe.{probeOf}
 use Rattle.walk.specs.Walk.{walkOf}
 use Rattle.play.specs.Player.{replyText, valueTextOf, nextOf, sayOf}
-use Rattle.play.specs.Session.{allLines, answers}
-use Rattle.calls.specs.declared.Call.{Call}
-use Rattle.calls.specs.declared.Call.the-variants.{Line, PortWrite, PortRead, Memory, Port, Probe, Walk, WindowWrite, WindowRead, Complete, Fault, Cycles, Mirror}
-use Rattle.calls.specs.Call.{callOf}
-use Rattle.talk.specs.Answers.{claimText, probeText, walkText}
+use Rattle.session.specs.Session.{allLines, answers}
+use Rattle.call_forms.specs.declared.Call.{Call}
+use Rattle.call_forms.specs.declared.Call.the-variants.{Line, PortWrite, PortRead, Memory, Port, Probe, Walk, WindowWrite, WindowRead, Complete, Fault, Cycles, Mirror}
+use Rattle.call_forms.specs.Call.{callOf}
+use Rattle.says.specs.Answers.{claimText, probeText, walkText}
 
 -- what a call does: only the player's lines, port writes, and writes and the host's changes in the window change the state
 unfoldable pub callNext : State → Call → State

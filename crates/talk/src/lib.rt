@@ -3,34 +3,22 @@ ghost use mathlib.Core.Path.{_≡_};
 ghost use mathlib.Core.List.{[], _++_};
 ghost use Prim.Native.Nat.{min, _+_, _-_, _*_, _≤_};
 ghost use lib.ListN.{length, take, drop};
-ghost use Rattle.rules.specs.Answers.{portReadSays, portWriteSays, windowReadSays, windowSays, claimSays, reached};
-ghost use Rattle.probe.specs.Probe.{probeSays};
-ghost use Rattle.walk.specs.Walk.{saysOf};
+ghost use Rattle.rules.specs.Answers.{portReadSays, portWriteSays, windowReadSays, windowSays, reached};
 ghost use Rattle.texts.specs.Text.{textOf};
 ghost use Rattle.play.specs.Player.{replyText, valueTextOf, nextOf, sayOf};
-ghost use Rattle.talk.specs.Answers.{claimText, probeText, walkText, answerText};
-ghost use Rattle.play.specs.Session.{played, playText};
+ghost use Rattle.says.specs.Answers.{answerText};
+ghost use Rattle.session.specs.Session.{played, playText};
 ghost use Rattle.talk.specs.Console.{callNext, callSay, lineNext, lineSay};
-use calls::Call;
-use lines::Command;
-use probe::Probed;
-use rules::Claim;
+use call_forms::Call;
+use forms::Command;
 use rules::PortReadAnswer;
 use rules::PortWriteAnswer;
 use rules::Reached;
 use rules::State;
 use rules::WindowAnswer;
 use rules::WindowReadAnswer;
+use says::Answer;
 use texts::Said;
-use walk::Found;
-
-// An answer of the player's, a claim, a range, or how a walk ended and its count.
-pub enum Answer {
-    Said(Said),
-    Window(Claim),
-    Range(Probed),
-    Item(Found, u32),
-}
 
 pub struct Answered {
     pub answer: Answer,
@@ -214,104 +202,6 @@ pub fn perform(s: State, k: Call) -> Answered
     }
 }
 
-// ---- the text of an answer, at most 24 bytes
-
-fn put_window(out: &mut [u8], o: usize, c: Claim) -> usize
-    requires { ⌜ o + 24 ≤ length (now out) ⌝ }
-    ensures { λ r. ⌜ take r (now (out .exit)) ≡ take o (now (out .entry)) ++ claimText (claimSays c) ⌝ }
-    ensures { λ r. ⌜ (r ≤ o + 24) × (length (now (out .exit)) ≡ length (now (out .entry))) ⌝ }
-{
-    match c {
-        Claim::Translation(x) => {
-            let a = words::put(out, o, b"OK TRANSLATION ");
-            let b = words::put8(out, a, x);
-            words::put(out, b, b"\n")
-        }
-        Claim::Aperture(x) => {
-            let a = words::put(out, o, b"OK APERTURE ");
-            let b = words::put8(out, a, x);
-            words::put(out, b, b"\n")
-        }
-        Claim::Io(x) => {
-            let a = words::put(out, o, b"OK IO ");
-            let b = words::put8(out, a, x);
-            words::put(out, b, b"\n")
-        }
-        Claim::None => words::put(out, o, b"OK NONE\n"),
-    }
-}
-
-fn put_range(out: &mut [u8], o: usize, p: Probed) -> usize
-    requires { ⌜ o + 24 ≤ length (now out) ⌝ }
-    ensures { λ r. ⌜ take r (now (out .exit)) ≡ take o (now (out .entry)) ++ probeText (probeSays p) ⌝ }
-    ensures { λ r. ⌜ (r ≤ o + 24) × (length (now (out .exit)) ≡ length (now (out .entry))) ⌝ }
-{
-    match p {
-        Probed::Io(e) => {
-            let a = words::put(out, o, b"OK IO ");
-            let b = words::put2(out, a, e);
-            words::put(out, b, b"\n")
-        }
-        Probed::Memory32(e) => {
-            let a = words::put(out, o, b"OK MEM32 ");
-            let b = words::put2(out, a, e);
-            words::put(out, b, b"\n")
-        }
-        Probed::Memory64(e) => {
-            let a = words::put(out, o, b"OK MEM64 ");
-            let b = words::put2(out, a, e);
-            words::put(out, b, b"\n")
-        }
-        Probed::NoRange => words::put(out, o, b"NO 8\n"),
-    }
-}
-
-fn put_item(out: &mut [u8], o: usize, f: Found, n: u32) -> usize
-    requires { ⌜ o + 24 ≤ length (now out) ⌝ }
-    ensures { λ r. ⌜ take r (now (out .exit)) ≡ take o (now (out .entry)) ++ walkText (saysOf f n) ⌝ }
-    ensures { λ r. ⌜ (r ≤ o + 24) × (length (now (out .exit)) ≡ length (now (out .entry))) ⌝ }
-{
-    match f {
-        Found::At(x) => {
-            let a = words::put(out, o, b"OK FOUND ");
-            let b = words::put2(out, a, x as u32);
-            let c = words::put(out, b, b" ");
-            let d = words::put2(out, c, n);
-            words::put(out, d, b"\n")
-        }
-        Found::Absent => {
-            let a = words::put(out, o, b"OK ABSENT ");
-            let b = words::put2(out, a, n);
-            words::put(out, b, b"\n")
-        }
-        Found::Pointer => {
-            let a = words::put(out, o, b"NO 10 ");
-            let b = words::put2(out, a, n);
-            words::put(out, b, b"\n")
-        }
-        Found::Endless => {
-            let a = words::put(out, o, b"NO 11 ");
-            let b = words::put2(out, a, n);
-            words::put(out, b, b"\n")
-        }
-        Found::Length => words::put(out, o, b"NO 1\n"),
-    }
-}
-
-// The answer's line from place `o` on; the result is the place behind it.
-pub fn put(out: &mut [u8], o: usize, a: Answer) -> usize
-    requires { ⌜ o + 24 ≤ length (now out) ⌝ }
-    ensures { λ r. ⌜ take r (now (out .exit)) ≡ take o (now (out .entry)) ++ answerText a ⌝ }
-    ensures { λ r. ⌜ (r ≤ o + 24) × (length (now (out .exit)) ≡ length (now (out .entry))) ⌝ }
-{
-    match a {
-        Answer::Said(s) => texts::put(out, o, s),
-        Answer::Window(c) => put_window(out, o, c),
-        Answer::Range(p) => put_range(out, o, p),
-        Answer::Item(f, n) => put_item(out, o, f, n),
-    }
-}
-
 // ---- lines
 
 pub struct Replied {
@@ -329,7 +219,7 @@ pub fn reply(s: State, l: &[u8], out: &mut [u8], o: usize) -> Replied
     let k = calls::parse(l);
     let p = perform(s, k);
     let a = p.answer;
-    let filled = put(out, o, a);
+    let filled = says::put(out, o, a);
     let state = p.state;
     Replied { filled, state }
 }

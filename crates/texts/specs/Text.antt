@@ -2,8 +2,8 @@
 use mathlib.Core.List.{List, [], _∷_, _++_}
 use Prim.Native.Nat.{ℕ, _/_, _%_}
 use Rattle.bits.specs.Choice.{if_then_else_, _<?_}
-use Rattle.lines.specs.Ascii.{ascii}
-use Rattle.lines.specs.Hex.{upOf, hexOf}
+use Rattle.forms.specs.Ascii.{ascii}
+use Rattle.forms.specs.Hex.{upOf, hexOf}
 use Rattle.texts.specs.declared.Said.{Said}
 use Rattle.texts.specs.declared.Said.the-variants.{Done, Value, No}
 

@@ -3,7 +3,7 @@ ghost use mathlib.Core.Path.{_≡_};
 ghost use mathlib.Core.List.{_++_};
 ghost use Prim.Native.Nat.{_+_, _<_, _≤_};
 ghost use lib.ListN.{length, take};
-ghost use Rattle.lines.specs.Hex.{upOf};
+ghost use Rattle.forms.specs.Hex.{upOf};
 ghost use Rattle.texts.specs.Text.{okText, noText, valueText, textOf};
 
 // What an entry says: accepted, a value, or the number of a refusal.
@@ -63,26 +63,11 @@ fn put_value(out: &mut [u8], o: usize, v: u32)
     ensures { λ _. ⌜ take (o + 12) (now (out .exit)) ≡ take o (now (out .entry)) ++ valueText v ⌝ }
     ensures { λ _. ⌜ length (now (out .exit)) ≡ length (now (out .entry)) ⌝ }
 {
-    let a = up(v / 268435456 % 16);
-    let b = up(v / 16777216 % 16);
-    let c = up(v / 1048576 % 16);
-    let d = up(v / 65536 % 16);
-    let e = up(v / 4096 % 16);
-    let f = up(v / 256 % 16);
-    let g = up(v / 16 % 16);
-    let h = up(v % 16);
     out[o] = b'O';
     out[o + 1] = b'K';
     out[o + 2] = b' ';
-    out[o + 3] = a;
-    out[o + 4] = b;
-    out[o + 5] = c;
-    out[o + 6] = d;
-    out[o + 7] = e;
-    out[o + 8] = f;
-    out[o + 9] = g;
-    out[o + 10] = h;
-    out[o + 11] = b'\n';
+    let e = words::put8(out, o + 3, v);
+    out[e] = b'\n';
 }
 
 // The answer's line from place `o` on; the result is the place behind it. At most 12 bytes are put.

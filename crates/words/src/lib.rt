@@ -3,7 +3,7 @@ ghost use mathlib.Core.Path.{_≡_};
 ghost use mathlib.Core.List.{_++_};
 ghost use Prim.Native.Nat.{_+_, _%_, _≤_};
 ghost use lib.ListN.{length, take};
-ghost use Rattle.lines.specs.Hex.{upOf, hexOf};
+ghost use Rattle.forms.specs.Hex.{upOf, hexOf};
 
 // The last digit of n in upper-case hex.
 pub fn digit(n: u32) -> u8

@@ -1,6 +1,6 @@
 -- `T nnnnnnnn`: the call of its number.
 use mathlib.Core.Path.{sym, _∙_}
-use Rattle.calls.proofs.Fields.{one-form}
+use Rattle.call_forms.proofs.Fields.{one-form}
 use borrow.Author.Needs.{needs}
 use Rattle.calls.proofs.cycles.Statement.{statement}
 use Rattle.calls.proofs.cycles.Tie as tie

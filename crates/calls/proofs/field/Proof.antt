@@ -1,6 +1,6 @@
 -- A space and the number behind it.
 use Rattle.bits.proofs.Tests.{tests}
-use Rattle.calls.specs.Call.{fieldOf}
+use Rattle.call_forms.specs.Call.{fieldOf}
 use borrow.Author.Needs.{needs}
 use Rattle.calls.proofs.field.Statement.{statement}
 use Rattle.calls.proofs.field.Tie as tie

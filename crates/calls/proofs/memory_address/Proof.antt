@@ -4,6 +4,9 @@ use borrow.Author.Needs.{needs}
 use Rattle.calls.proofs.memory_address.Statement.{statement}
 use Rattle.calls.proofs.memory_address.Tie as tie
 
+returns : tie.Need-returns
+returns c = rw (sym (c .before .before .before .one .ensures) ∙ c .before .a .given .1)
+
 pub memory-address-spec : {M : Type 1} → statement M
 memory-address-spec =
     tie.close
@@ -12,5 +15,5 @@ memory-address-spec =
     (λ c. search needs)
     (λ c. search needs)
     (λ c κs. search needs)
-    (λ c. rw (sym (c .before .before .before .one .ensures) ∙ c .before .a .given .1))
+    returns
     (λ c. rw (c .none .ensures, sym (c .before .before .before .one .ensures) ∙ c .before .enum-told .given .1)))

@@ -4,6 +4,9 @@ use borrow.Author.Needs.{needs}
 use Rattle.calls.proofs.mirror.Statement.{statement}
 use Rattle.calls.proofs.mirror.Tie as tie
 
+returns : tie.Need-returns
+returns c = rw (sym (c .before .before .before .three .ensures) ∙ c .before .o .given .1)
+
 pub mirror-spec : {M : Type 1} → statement M
 mirror-spec =
     tie.close
@@ -12,5 +15,5 @@ mirror-spec =
     (λ c. search needs)
     (λ c. search needs)
     (λ c κs. search needs)
-    (λ c. rw (sym (c .before .before .before .three .ensures) ∙ c .before .o .given .1))
+    returns
     (λ c. rw (c .none .ensures, sym (c .before .before .before .three .ensures) ∙ c .before .enum-told .given .1)))

@@ -4,8 +4,8 @@ use mathlib.Core.Path.{_≡_, sym, _∙_}
 use Prim.Native.Nat.{suc, _≤_, _<_, _-_, _+_, _*_, _^_}
 use native.Mathlib.Omega.{arith}
 use native.Mathlib.Nat.{add-zero, add-assoc, sub-zero}
-use Rattle.calls.specs.Call.{hexFrom}
-use Rattle.calls.proofs.Digits.{stops, goes, grown, within}
+use Rattle.call_forms.specs.Call.{hexFrom}
+use Rattle.call_forms.proofs.Digits.{stops, goes, grown, within}
 use Rattle.calls.proofs.number.Statement.{statement}
 use Rattle.calls.proofs.number.Tie as tie
 

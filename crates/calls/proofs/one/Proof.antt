@@ -1,6 +1,6 @@
 -- A line of one number: its length and its field.
 use Rattle.bits.proofs.Tests.{tests}
-use Rattle.calls.specs.Call.{oneOf}
+use Rattle.call_forms.specs.Call.{oneOf}
 use borrow.Author.Needs.{needs}
 use Rattle.calls.proofs.one.Statement.{statement}
 use Rattle.calls.proofs.one.Tie as tie

@@ -4,7 +4,7 @@ use mathlib.Core.List.{List, [], _∷_}
 use Prim.Native.Nat.{ℕ}
 use native.Mathlib.Omega.{arith}
 use lib.ListN.{getD, length}
-use Rattle.calls.specs.Call.{callOf}
+use Rattle.call_forms.specs.Call.{callOf}
 use borrow.Author.Needs.{needs}
 use Rattle.calls.proofs.parse.Statement.{statement}
 use Rattle.calls.proofs.parse.Tie as tie

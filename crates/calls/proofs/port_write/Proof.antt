@@ -1,6 +1,6 @@
 -- `O pppp w vvvvvvvv`: the call of its numbers.
 use mathlib.Core.Path.{sym, _∙_}
-use Rattle.calls.proofs.Fields.{three-form}
+use Rattle.call_forms.proofs.Fields.{three-form}
 use borrow.Author.Needs.{needs}
 use Rattle.calls.proofs.port_write.Statement.{statement}
 use Rattle.calls.proofs.port_write.Tie as tie

@@ -2,8 +2,8 @@
 use mathlib.Core.Path.{sym, _∙_}
 use borrow.Author.Tests.{eq-eqb}
 use Rattle.bits.proofs.Tests.{tests}
-use Rattle.calls.specs.Call.{threeOf}
-use Rattle.calls.proofs.Fields.{field-fits}
+use Rattle.call_forms.specs.Call.{threeOf}
+use Rattle.call_forms.proofs.Fields.{field-fits}
 use borrow.Author.Needs.{needs}
 use Rattle.calls.proofs.three.Statement.{statement}
 use Rattle.calls.proofs.three.Tie as tie

@@ -4,6 +4,9 @@ use borrow.Author.Needs.{needs}
 use Rattle.calls.proofs.window_read.Statement.{statement}
 use Rattle.calls.proofs.window_read.Tie as tie
 
+returns : tie.Need-returns
+returns c = rw (sym (c .before .before .before .two .ensures) ∙ c .before .o .given .1)
+
 pub window-read-spec : {M : Type 1} → statement M
 window-read-spec =
     tie.close
@@ -12,5 +15,5 @@ window-read-spec =
     (λ c. search needs)
     (λ c. search needs)
     (λ c κs. search needs)
-    (λ c. rw (sym (c .before .before .before .two .ensures) ∙ c .before .o .given .1))
+    returns
     (λ c. rw (c .none .ensures, sym (c .before .before .before .two .ensures) ∙ c .before .enum-told .given .1)))

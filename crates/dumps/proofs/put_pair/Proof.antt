@@ -3,7 +3,7 @@ use mathlib.Core.Path.{refl}
 use native.Mathlib.Omega.{arith}
 use lib.ListN.{length-set}
 use borrow.Author.Needs.{needs}
-use Rattle.texts.proofs.Placed.{put-at}
+use Rattle.words.proofs.Placed.{put-at}
 use Rattle.dumps.specs.Dump.{lowPair}
 use Rattle.dumps.proofs.put_pair.Statement.{statement}
 use Rattle.dumps.proofs.put_pair.Tie as tie

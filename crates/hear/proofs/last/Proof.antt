@@ -3,7 +3,7 @@ use mathlib.Core.Path.{sym, _∙_}
 use native.Mathlib.Omega.{arith}
 use lib.ListN.{take}
 use lib.Seq.{length-take-le}
-use Rattle.play.proofs.Turns.{last-line}
+use Rattle.session.proofs.Turns.{last-line}
 use Rattle.talk.specs.Console.{lineNext, lineSay}
 use borrow.Author.Needs.{needs}
 use Rattle.hear.proofs.last.Statement.{statement}

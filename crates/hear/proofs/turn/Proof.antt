@@ -4,7 +4,7 @@ use Prim.Native.Nat.{_+_, _≤_}
 use native.Mathlib.Omega.{arith}
 use lib.ListN.{take}
 use lib.Seq.{length-take-le}
-use Rattle.play.proofs.Turns.{one-turn}
+use Rattle.session.proofs.Turns.{one-turn}
 use Rattle.talk.specs.Console.{lineNext, lineSay}
 use borrow.Author.Needs.{needs}
 use Rattle.hear.proofs.turn.Statement.{statement}

@@ -1,6 +1,6 @@
 -- The numbers of a host update line.
 use Rattle.bits.proofs.Tests.{tests}
-use Rattle.lines.specs.Line.{hostCommandOf}
+use Rattle.forms.specs.Line.{hostCommandOf}
 use borrow.Author.Needs.{needs}
 use Rattle.lines.proofs.host_command.Statement.{statement}
 use Rattle.lines.proofs.host_command.Tie as tie

@@ -6,7 +6,7 @@ use mathlib.Core.Logic.{⊎-elim}
 use lib.Dec.{ltb}
 use borrow.Author.Tests.{lt-ltb, le-ltb}
 use Rattle.bits.specs.Choice.{pick}
-use Rattle.lines.specs.Line.{digitOf, pairOf}
+use Rattle.forms.specs.Line.{digitOf, pairOf}
 use Rattle.lines.proofs.Which.{which}
 use borrow.Author.Needs.{needs}
 use Rattle.lines.proofs.pair.Statement.{statement}

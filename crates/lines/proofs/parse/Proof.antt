@@ -1,6 +1,6 @@
 -- A line by its length, its letter and its spaces.
 use Rattle.bits.proofs.Tests.{tests}
-use Rattle.lines.specs.Line.{commandOf}
+use Rattle.forms.specs.Line.{commandOf}
 use borrow.Author.Needs.{needs}
 use Rattle.lines.proofs.parse.Statement.{statement}
 use Rattle.lines.proofs.parse.Tie as tie

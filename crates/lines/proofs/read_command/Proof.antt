@@ -1,6 +1,6 @@
 -- The numbers of a read line.
 use Rattle.bits.proofs.Tests.{tests}
-use Rattle.lines.specs.Line.{readCommandOf}
+use Rattle.forms.specs.Line.{readCommandOf}
 use Rattle.lines.proofs.read_command.Statement.{statement}
 use Rattle.lines.proofs.read_command.Tie as tie
 

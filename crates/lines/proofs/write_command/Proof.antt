@@ -1,6 +1,6 @@
 -- The numbers of a write line.
 use Rattle.bits.proofs.Tests.{tests}
-use Rattle.lines.specs.Line.{writeCommandOf}
+use Rattle.forms.specs.Line.{writeCommandOf}
 use borrow.Author.Needs.{needs}
 use Rattle.lines.proofs.write_command.Statement.{statement}
 use Rattle.lines.proofs.write_command.Tie as tie

@@ -4,7 +4,7 @@ use mathlib.Core.Path.{_≡_, refl}
 use native.Mathlib.Omega.{arith}
 use Prim.Native.Nat.{_≤_, _+_, _-_}
 use lib.ListN.{length, take, drop, length-set}
-use Rattle.play.proofs.Text.{moved}
+use Rattle.session.proofs.Text.{moved}
 use Rattle.play.proofs.keep_first.Statement.{statement}
 use Rattle.play.proofs.keep_first.Tie as tie
 

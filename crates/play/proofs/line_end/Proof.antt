@@ -4,8 +4,8 @@ use mathlib.Core.Path.{_≡_}
 use native.Mathlib.Omega.{arith}
 use Prim.Native.Nat.{_≤_, _+_, _-_}
 use lib.ListN.{length, drop}
-use Rattle.play.specs.Session.{runOf}
-use Rattle.play.proofs.Text.{run-here, run-on, run-end}
+use Rattle.session.specs.Session.{runOf}
+use Rattle.session.proofs.Text.{run-here, run-on, run-end}
 use Rattle.play.proofs.line_end.Statement.{statement}
 use Rattle.play.proofs.line_end.Tie as tie
 

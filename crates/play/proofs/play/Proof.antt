@@ -5,9 +5,9 @@ use mathlib.Core.List.{[]}
 use native.Mathlib.Omega.{arith}
 use Prim.Native.Nat.{_≤_, _-_, _*_}
 use lib.ListN.{length, drop, take}
-use Rattle.play.specs.Session.{playText, follow}
+use Rattle.session.specs.Session.{playText, follow}
 use Rattle.play.specs.Box.{box, lineBox, lineText}
-use Rattle.play.proofs.Text.{steps, ends}
+use Rattle.session.proofs.Text.{steps, ends}
 use Rattle.play.proofs.play.Statement.{statement}
 use Rattle.play.proofs.play.Tie as tie
 

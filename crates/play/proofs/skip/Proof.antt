@@ -4,7 +4,7 @@ use mathlib.Core.Path.{_≡_, refl, _∙_}
 use native.Mathlib.Omega.{arith}
 use Prim.Native.Nat.{_≤_, _+_, _-_}
 use lib.ListN.{length, drop}
-use Rattle.play.specs.Session.{runOf}
+use Rattle.session.specs.Session.{runOf}
 use Rattle.play.proofs.skip.Statement.{statement}
 use Rattle.play.proofs.skip.Tie as tie
 

@@ -6,8 +6,8 @@ use mathlib.Core.Logic.{⊎-elim}
 use native.Mathlib.Omega.{arith}
 use Prim.Native.Nat.{ℕ, _<_, _≤_, _+_, _-_}
 use lib.ListN.{length, drop, getD}
-use Rattle.play.specs.Session.{LF, runOf}
-use Rattle.play.proofs.Text.{run-on}
+use Rattle.session.specs.Session.{LF, runOf}
+use Rattle.session.proofs.Text.{run-on}
 use Rattle.play.proofs.some_lf.Statement.{statement}
 use Rattle.play.proofs.some_lf.Tie as tie
 

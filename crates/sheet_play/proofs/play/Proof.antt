@@ -4,8 +4,8 @@ use mathlib.Core.List.{[]}
 use native.Mathlib.Omega.{arith}
 use Prim.Native.Nat.{_≤_, _-_, _*_}
 use lib.ListN.{length, drop, take}
-use Rattle.play.specs.Session.{playText, follow}
-use Rattle.play.proofs.Text.{steps, ends}
+use Rattle.session.specs.Session.{playText, follow}
+use Rattle.session.proofs.Text.{steps, ends}
 use Rattle.sheet_play.specs.Box.{box, lineBox, lineText}
 use borrow.Author.Needs.{needs}
 use Rattle.sheet_play.proofs.play.Statement.{statement}

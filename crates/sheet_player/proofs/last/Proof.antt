@@ -3,7 +3,7 @@ use mathlib.Core.Path.{refl, sym, _∙_}
 use native.Mathlib.Omega.{arith}
 use lib.ListN.{take}
 use lib.Seq.{length-take-le}
-use Rattle.play.proofs.Turns.{last-line}
+use Rattle.session.proofs.Turns.{last-line}
 use Rattle.sheet_play.specs.Box.{box, lineBox, lineText}
 use borrow.Author.Needs.{needs}
 use Rattle.sheet_player.proofs.last.Statement.{statement}

@@ -4,7 +4,7 @@ use Prim.Native.Nat.{_+_, _≤_}
 use native.Mathlib.Omega.{arith}
 use lib.ListN.{take}
 use lib.Seq.{length-take-le}
-use Rattle.play.proofs.Turns.{one-turn}
+use Rattle.session.proofs.Turns.{one-turn}
 use Rattle.sheet_play.specs.Box.{box, lineBox, lineText}
 use borrow.Author.Needs.{needs}
 use Rattle.sheet_player.proofs.turn.Statement.{statement}

@@ -4,7 +4,7 @@ use Prim.Native.Nat.{ℕ, _-_, _<_, _≤_}
 use native.Mathlib.Omega.{arith}
 use lib.ListN.{length, length-set, getD}
 use Rattle.bits.proofs.Places.{set-at}
-use Rattle.lines.specs.Ascii.{letter}
+use Rattle.forms.specs.Ascii.{letter}
 use Rattle.sheet_rows.specs.Row.{charOf, rowText}
 use Rattle.sheet_rows.proofs.Laws.{from-then}
 use borrow.Author.Needs.{needs}

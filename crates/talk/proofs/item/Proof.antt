@@ -1,6 +1,6 @@
 -- A walk over the bytes as a guest reads them.
 use mathlib.Core.Path.{ap}
-use Rattle.talk.specs.Answers.{walkText, answerText}
+use Rattle.says.specs.Answers.{walkText, answerText}
 use Rattle.talk.specs.Console.{callSay}
 use borrow.Author.Needs.{needs}
 use Rattle.talk.proofs.item.Statement.{statement}

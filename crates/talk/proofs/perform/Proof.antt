@@ -7,7 +7,7 @@ use Rattle.rules.specs.Answers.{reached}
 use Rattle.texts.specs.Text.{textOf}
 use Rattle.rules.specs.Access.{Outcome}
 use Rattle.play.specs.Player.{replyText, valueTextOf}
-use Rattle.talk.specs.Answers.{claimText, probeText, answerText}
+use Rattle.says.specs.Answers.{claimText, probeText, answerText}
 use Rattle.talk.specs.Console.{callNext, callSay}
 use borrow.Author.Needs.{needs}
 use Rattle.talk.proofs.perform.Statement.{statement}

@@ -1,6 +1,6 @@
 -- What is said of a change in the window, and its state.
 use mathlib.Core.Path.{refl}
-use Rattle.talk.specs.Answers.{answerText}
+use Rattle.says.specs.Answers.{answerText}
 use borrow.Author.Needs.{needs}
 use Rattle.talk.proofs.reach.Statement.{statement}
 use Rattle.talk.proofs.reach.Tie as tie

@@ -4,10 +4,10 @@ use Prim.Native.Nat.{_/_, _%_}
 use native.Mathlib.Omega.{arith}
 use lib.ListN.{length-set}
 use borrow.Author.Tests.{lt-ltb, le-ltb}
-use Rattle.lines.specs.Ascii.{ascii}
-use Rattle.lines.specs.Hex.{upOf}
+use Rattle.forms.specs.Ascii.{ascii}
+use Rattle.forms.specs.Hex.{upOf}
 use Rattle.texts.specs.Text.{noText}
-use Rattle.texts.proofs.Placed.{put-at}
+use Rattle.words.proofs.Placed.{put-at}
 use borrow.Author.Needs.{needs}
 use Rattle.texts.proofs.put_no.Statement.{statement}
 use Rattle.texts.proofs.put_no.Tie as tie

@@ -2,7 +2,7 @@
 use native.Mathlib.Omega.{arith}
 use lib.ListN.{length-set}
 use Rattle.texts.specs.Text.{okText}
-use Rattle.texts.proofs.Placed.{put-at}
+use Rattle.words.proofs.Placed.{put-at}
 use borrow.Author.Needs.{needs}
 use Rattle.texts.proofs.put_ok.Statement.{statement}
 use Rattle.texts.proofs.put_ok.Tie as tie

@@ -1,6 +1,6 @@
 -- A digit of upper-case hex.
 use Rattle.bits.proofs.Tests.{tests}
-use Rattle.lines.specs.Hex.{upOf}
+use Rattle.forms.specs.Hex.{upOf}
 use borrow.Author.Needs.{needs}
 use Rattle.texts.proofs.up.Statement.{statement}
 use Rattle.texts.proofs.up.Tie as tie

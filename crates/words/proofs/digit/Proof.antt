@@ -1,6 +1,6 @@
 -- The last digit in upper-case hex.
 use Rattle.bits.proofs.Tests.{tests}
-use Rattle.lines.specs.Hex.{upOf}
+use Rattle.forms.specs.Hex.{upOf}
 use borrow.Author.Needs.{needs}
 use Rattle.words.proofs.digit.Statement.{statement}
 use Rattle.words.proofs.digit.Tie as tie

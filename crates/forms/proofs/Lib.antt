@@ -1,0 +1,4 @@
+pub mod Long
+pub mod Digits
+pub mod Exactly
+pub mod Forms
