@@ -1,7 +1,7 @@
 // The sheet's file that a program's argument names: read, checked, and refused with a number for the session and a sentence for a person.
 use libc::STDERR_FILENO;
 use libc::STDOUT_FILENO;
-use sheets::SheetAnswer;
+use sheet_rules::SheetAnswer;
 ghost use mathlib.Core.Path.{_≡_};
 ghost use Prim.Native.Nat.{_+_, _<_, _≤_};
 ghost use lib.ListN.{length};

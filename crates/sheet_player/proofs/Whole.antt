@@ -10,9 +10,9 @@ use Rattle.bits.specs.Places.{bytes}
 use Rattle.bits.proofs.Places.{length-bytes, at-each}
 use Rattle.session.specs.Session.{joins, blocksText}
 use Rattle.sheet.specs.Sheet.{entries, DEFAULT}
-use Rattle.sheets.specs.Check.{accepts, checkOf}
-use Rattle.sheets.specs.Tables.{cellIn, tableOf, tables, tablesOf}
-use Rattle.sheets.proofs.Cells.{cell-fits}
+use Rattle.sheet_rules.specs.Check.{accepts, checkOf}
+use Rattle.sheet_rules.specs.Tables.{cellIn, tableOf, tables, tablesOf}
+use Rattle.sheet_rules.proofs.Cells.{cell-fits}
 use Rattle.sheet_play.specs.Box.{lineBox, lineText}
 use Rattle.sheet_play.specs.Player.{sheetPlayerOf}
 use Rattle.sheet_play.proofs.Bridge.{Good, boxed, sheet-player-is}

@@ -1,4 +1,4 @@
-// A register sheet checked, and the tables of the device that it describes.
+// A register sheet checked, and the tables of the device that it describes, by a reader that holds it.
 ghost use mathlib.Core.Path.{_≡_};
 ghost use mathlib.Core.Bool.{Bool};
 ghost use Prim.Native.Nat.{_+_, _*_, _^_, _<_, _≤_};
@@ -6,27 +6,13 @@ ghost use lib.ListN.{length};
 ghost use Rattle.bits.specs.Places.{bytes};
 ghost use Rattle.sheet.specs.Sheet.{entries, contents, belongs};
 ghost use Rattle.sheet.specs.Reads.{bodyAt};
-ghost use Rattle.sheets.specs.Check.{sheetNo, accepts, entryOf, named, firstOf, checkOf};
-ghost use Rattle.sheets.specs.Tables.{rawIn, tablesOf};
-ghost use Rattle.sheets.specs.Walked.{judged, endOf, longOf, hasIn, placeIn};
+ghost use Rattle.sheet_rules.specs.Check.{sheetNo, accepts, entryOf, named, firstOf, checkOf};
+ghost use Rattle.sheet_rules.specs.Tables.{rawIn, tablesOf};
+ghost use Rattle.sheet_rules.specs.Walked.{judged, endOf, longOf, hasIn, placeIn};
 use device::Tables;
 use sheet::Body;
 use sheet::Entry;
-
-// What a sheet is: good; or what is wrong with it first, and with which entry, counted from 0.
-pub enum SheetAnswer {
-    Good,
-    Empty,
-    Count,
-    Cut,
-    Length(usize),
-    Order(usize),
-    Past(usize),
-    Start(usize),
-    Total,
-    Shared(usize),
-    Outside(usize),
-}
+use sheet_rules::SheetAnswer;
 
 // The refusal's number, 0 where the sheet is good.
 pub fn number(a: SheetAnswer) -> u32

@@ -5,9 +5,9 @@ use Prim.Native.Nat.{_-_, _≤_}
 use native.Mathlib.Omega.{arith}
 use Rattle.sheet.specs.Sheet.{entries}
 use Rattle.sheet.specs.Reads.{entryAt}
-use Rattle.sheets.specs.Tables.{rawIn}
-use Rattle.sheets.specs.Walked.{hasIn}
-use Rattle.sheets.proofs.Entries.{raw-step}
+use Rattle.sheet_rules.specs.Tables.{rawIn}
+use Rattle.sheet_rules.specs.Walked.{hasIn}
+use Rattle.sheet_rules.proofs.Entries.{raw-step}
 use borrow.Author.Needs.{needs}
 use Rattle.sheets.proofs.cell.Statement.{statement}
 use Rattle.sheets.proofs.cell.Tie as tie

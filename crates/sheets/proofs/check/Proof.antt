@@ -6,8 +6,8 @@ use lib.ListN.{length}
 use borrow.Author.Tests.{eq-eqb, ne-eqb, lt-ltb, lt-leb, le-leb}
 use Rattle.bits.specs.Choice.{allBelow}
 use Rattle.sheet.specs.Sheet.{entries, contents, belongs, goodCount, goodEntry}
-use Rattle.sheets.specs.Check.{accepts, entryOf, bodyAnswer, firstOf, checkOf}
-use Rattle.sheets.proofs.Checked.{entries-good, bodies-are, rest-of, ends-total, ends-bodies, ends-entries}
+use Rattle.sheet_rules.specs.Check.{accepts, entryOf, bodyAnswer, firstOf, checkOf}
+use Rattle.sheet_rules.proofs.Checked.{entries-good, bodies-are, rest-of, ends-total, ends-bodies, ends-entries}
 use borrow.Author.Needs.{needs}
 use Rattle.sheets.proofs.check.Statement.{statement}
 use Rattle.sheets.proofs.check.Tie as tie

@@ -1,5 +1,5 @@
 -- Whether a sheet's answer accepts.
-use Rattle.sheets.specs.Check.{accepts}
+use Rattle.sheet_rules.specs.Check.{accepts}
 use borrow.Author.Needs.{needs}
 use Rattle.sheets.proofs.good.Statement.{statement}
 use Rattle.sheets.proofs.good.Tie as tie

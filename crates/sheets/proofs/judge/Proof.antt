@@ -2,7 +2,7 @@
 use Prim.Native.Nat.{_+_}
 use native.Mathlib.Omega.{arith}
 use borrow.Author.Tests.{eq-eqb, ne-eqb, lt-ltb, le-ltb, lt-leb, le-leb}
-use Rattle.sheets.specs.Check.{placed}
+use Rattle.sheet_rules.specs.Check.{placed}
 use borrow.Author.Needs.{needs}
 use Rattle.sheets.proofs.judge.Statement.{statement}
 use Rattle.sheets.proofs.judge.Tie as tie

@@ -3,10 +3,10 @@ use mathlib.Core.Path.{_≡_, sym, ap, _∙_}
 use mathlib.Core.Bool.{true, false}
 use native.Mathlib.Omega.{arith}
 use Rattle.sheet.specs.Sheet.{DEFAULT, GUEST, HOST, RESET}
-use Rattle.sheets.specs.Check.{accepts, checkOf}
-use Rattle.sheets.specs.Tables.{tablesOf}
-use Rattle.sheets.proofs.Checked.{check-good}
-use Rattle.sheets.proofs.Cells.{long-enough, table-is}
+use Rattle.sheet_rules.specs.Check.{accepts, checkOf}
+use Rattle.sheet_rules.specs.Tables.{tablesOf}
+use Rattle.sheet_rules.proofs.Checked.{check-good}
+use Rattle.sheet_rules.proofs.Cells.{long-enough, table-is}
 use borrow.Author.Needs.{needs}
 use Rattle.sheets.proofs.load.Statement.{statement}
 use Rattle.sheets.proofs.load.Tie as tie

@@ -5,7 +5,7 @@ use native.Mathlib.Omega.{arith}
 use lib.ListN.{length, length-set, getD}
 use Rattle.bits.proofs.Places.{as-bytes, set-at}
 use Rattle.sheet.specs.Sheet.{entries}
-use Rattle.sheets.specs.Tables.{rawIn}
+use Rattle.sheet_rules.specs.Tables.{rawIn}
 use borrow.Author.Needs.{needs}
 use Rattle.sheets.proofs.table.Statement.{statement}
 use Rattle.sheets.proofs.table.Tie as tie

@@ -7,9 +7,9 @@ use native.Mathlib.Numerals.{add-one}
 use Rattle.bits.specs.Choice.{first}
 use Rattle.bits.proofs.Below.{first-start, first-step, first-end}
 use Rattle.sheet.specs.Reads.{bodyAt}
-use Rattle.sheets.specs.declared.SheetAnswer.{SheetAnswer}
-use Rattle.sheets.specs.declared.SheetAnswer.the-variants.{Good}
-use Rattle.sheets.specs.Check.{accepts, named, firstOf}
+use Rattle.sheet_rules.specs.declared.SheetAnswer.{SheetAnswer}
+use Rattle.sheet_rules.specs.declared.SheetAnswer.the-variants.{Good}
+use Rattle.sheet_rules.specs.Check.{accepts, named, firstOf}
 use borrow.Author.Needs.{needs}
 use Rattle.sheets.proofs.walk_bodies.Statement.{statement}
 use Rattle.sheets.proofs.walk_bodies.Tie as tie

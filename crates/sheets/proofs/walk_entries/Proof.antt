@@ -9,9 +9,9 @@ use Rattle.bits.specs.Choice.{first}
 use Rattle.bits.proofs.Below.{first-start, first-step, first-end}
 use Rattle.sheet.specs.declared.Entry.the-variants.{Listed}
 use Rattle.sheet.specs.Sheet.{offsetOf, lengthOf, startOf, endBefore, belongs}
-use Rattle.sheets.specs.declared.SheetAnswer.the-variants.{Good}
-use Rattle.sheets.specs.Check.{accepts, entryOf, firstOf}
-use Rattle.sheets.proofs.Entries.{listed-at}
+use Rattle.sheet_rules.specs.declared.SheetAnswer.the-variants.{Good}
+use Rattle.sheet_rules.specs.Check.{accepts, entryOf, firstOf}
+use Rattle.sheet_rules.proofs.Entries.{listed-at}
 use borrow.Author.Needs.{needs}
 use Rattle.sheets.proofs.walk_entries.Statement.{statement}
 use Rattle.sheets.proofs.walk_entries.Tie as tie

@@ -6,7 +6,7 @@ use Prim.Native.Nat.{ℕ, _<_}
 use Rattle.rules.specs.Plain.{held}
 use Rattle.device.specs.ReadOnly as D
 use Rattle.sheet.specs.Sheet.{entries, goodSheet}
-use Rattle.sheets.specs.Tables.{has, tablesOf}
+use Rattle.sheet_rules.specs.Tables.{has, tablesOf}
 
 -- 1. Read-only bits hold their default, or what the last accepted host update since then that masked them gave. (Read-only: no guest mask has the bit.)
 abbrev pub Read-only : Type 0

@@ -11,8 +11,8 @@ use Rattle.sheet.specs.declared.Entry.{Entry}
 use Rattle.sheet.specs.declared.Entry.the-variants.{Listed, End}
 use Rattle.sheet.specs.Sheet.{at, entries, contents, offsetOf, lengthOf, startOf}
 use Rattle.sheet.specs.Reads.{entryAt}
-use Rattle.sheets.specs.Tables.{has, rawIn}
-use Rattle.sheets.specs.Walked.{hasIn, placeIn}
+use Rattle.sheet_rules.specs.Tables.{has, rawIn}
+use Rattle.sheet_rules.specs.Walked.{hasIn, placeIn}
 
 pub listed-at : (s : List ℕ) (k : ℕ) → k < entries s → contents s ≤ length s → entryAt s k ≡ Listed (offsetOf s k) (lengthOf s k) (startOf s k)
 unfolding entryAt

@@ -9,8 +9,8 @@ use Rattle.sheet.specs.Sheet.{entries, contents, offsetOf, lengthOf, startOf, e
 use Rattle.sheet.specs.Reads.{bodyIs}
 use Rattle.sheet.specs.declared.Body.{Body}
 use Rattle.sheet.specs.declared.Body.the-variants as B
-use Rattle.sheets.specs.declared.SheetAnswer.{SheetAnswer}
-use Rattle.sheets.specs.declared.SheetAnswer.the-variants.{Good, Empty, Count, Cut, Length, Order, Past, Start, Total, Shared, Outside}
+use Rattle.sheet_rules.specs.declared.SheetAnswer.{SheetAnswer}
+use Rattle.sheet_rules.specs.declared.SheetAnswer.the-variants.{Good, Empty, Count, Cut, Length, Order, Past, Start, Total, Shared, Outside}
 
 -- the number of each answer
 abbrev pub sheetNo : SheetAnswer → ℕ

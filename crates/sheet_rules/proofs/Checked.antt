@@ -14,10 +14,10 @@ use Rattle.sheet.specs.declared.Body.{Body}
 use Rattle.sheet.specs.declared.Body.the-variants as B
 use Rattle.sheet.specs.Sheet.{entries, contents, offsetOf, lengthOf, startOf, endBefore, belongs, bodyOf, partOf, GUEST, HOST, RESET, shares, strays, goodCount, goodLength, goodEntry, goodBody, goodSheet}
 use Rattle.sheet.specs.Reads.{isGood, byteIs, masksAt, bodyIs, bodyAt}
-use Rattle.sheets.specs.declared.SheetAnswer.{SheetAnswer}
-use Rattle.sheets.specs.declared.SheetAnswer.the-variants.{Good, Empty, Count, Cut, Length, Order, Past, Start, Total, Shared, Outside}
-use Rattle.sheets.specs.Check.{accepts, _andThen_, placed, entryOf, named, bodyAnswer, firstOf, totalOf, checkOf}
-use Rattle.sheets.proofs.Entries.{listed-at}
+use Rattle.sheet_rules.specs.declared.SheetAnswer.{SheetAnswer}
+use Rattle.sheet_rules.specs.declared.SheetAnswer.the-variants.{Good, Empty, Count, Cut, Length, Order, Past, Start, Total, Shared, Outside}
+use Rattle.sheet_rules.specs.Check.{accepts, _andThen_, placed, entryOf, named, bodyAnswer, firstOf, totalOf, checkOf}
+use Rattle.sheet_rules.proofs.Entries.{listed-at}
 
 -- ---- an entry
 

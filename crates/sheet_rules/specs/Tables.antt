@@ -6,7 +6,7 @@ use Rattle.bits.specs.Choice.{if_then_else_, _and_, _≤?_, _<?_}
 use Rattle.bits.specs.Places.{bytes}
 use Rattle.device.specs.declared.Tables.{Tables}
 use Rattle.sheet.specs.Sheet.{at, entries, offsetOf, lengthOf, startOf, bodyOf, partOf, DEFAULT, GUEST, HOST, RESET}
-use Rattle.sheets.specs.Check.{accepts, checkOf}
+use Rattle.sheet_rules.specs.Check.{accepts, checkOf}
 
 -- a register of that offset and length has byte i of the device
 abbrev pub covers : ℕ → ℕ → ℕ → Bool

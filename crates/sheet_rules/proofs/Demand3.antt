@@ -17,11 +17,11 @@ use Rattle.device.specs.declared.Tables.{Tables}
 use Rattle.device.specs.ReadOnly.{Inside}
 use Rattle.device.proofs.ReadOnly as D
 use Rattle.sheet.specs.Sheet.{entries, DEFAULT, GUEST, HOST, RESET, goodSheet}
-use Rattle.sheets.specs.Check.{accepts, checkOf}
-use Rattle.sheets.specs.Tables.{cellIn, tableOf, tables, tablesOf}
-use Rattle.sheets.specs.Demand3.{Read-only, Unlisted}
-use Rattle.sheets.proofs.Checked.{check-good}
-use Rattle.sheets.proofs.Cells.{cells-inside, unlisted-cell}
+use Rattle.sheet_rules.specs.Check.{accepts, checkOf}
+use Rattle.sheet_rules.specs.Tables.{cellIn, tableOf, tables, tablesOf}
+use Rattle.sheet_rules.specs.Demand3.{Read-only, Unlisted}
+use Rattle.sheet_rules.proofs.Checked.{check-good}
+use Rattle.sheet_rules.proofs.Cells.{cells-inside, unlisted-cell}
 
 -- ---- a table's byte
 

@@ -3,10 +3,10 @@ use mathlib.Core.Bool.{Bool, false}
 use Prim.Native.Nat.{ℕ, _+_, _-_, _*_}
 use Rattle.sheet.specs.declared.Entry.{Entry}
 use Rattle.sheet.specs.declared.Entry.the-variants.{Listed, End}
-use Rattle.sheets.specs.declared.SheetAnswer.{SheetAnswer}
-use Rattle.sheets.specs.declared.SheetAnswer.the-variants.{Cut}
-use Rattle.sheets.specs.Check.{placed}
-use Rattle.sheets.specs.Tables.{covers}
+use Rattle.sheet_rules.specs.declared.SheetAnswer.{SheetAnswer}
+use Rattle.sheet_rules.specs.declared.SheetAnswer.the-variants.{Cut}
+use Rattle.sheet_rules.specs.Check.{placed}
+use Rattle.sheet_rules.specs.Tables.{covers}
 
 abbrev pub judged : Entry → ℕ → ℕ → ℕ → SheetAnswer
 judged (Listed o l a) k end place = placed k end place o l a

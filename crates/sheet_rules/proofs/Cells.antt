@@ -15,8 +15,8 @@ use Rattle.bits.proofs.Below.{both-left, both-right, below, is-true, is-false, 
 use Rattle.bits.proofs.Places.{getD-bytes, bytes-ext}
 use Rattle.sheet.specs.Sheet.{at, entries, contents, offsetOf, lengthOf, startOf, belongs, bodyOf, partOf, GUEST, HOST, RESET, shares, strays, goodCount, goodEntry, goodBody, goodSheet}
 use Rattle.sheet.proofs.Parts.{in-body}
-use Rattle.sheets.specs.Tables.{has, cellIn, tableOf, rawIn}
-use Rattle.sheets.proofs.Checked.{contents-first, lies}
+use Rattle.sheet_rules.specs.Tables.{has, cellIn, tableOf, rawIn}
+use Rattle.sheet_rules.proofs.Checked.{contents-first, lies}
 
 pub has-facts : (s : List ℕ) (k i : ℕ) → has s k i ≡ true → (offsetOf s k ≤ i) × (i < offsetOf s k + lengthOf s k)
 has-facts s k i e =
