@@ -1,15 +1,13 @@
 // The paper's checked examples, run from fresh states: a function for each of its bullets, in its order.
-mod access;
-mod print;
 mod scan;
 
-use access::end_signal;
-use access::guest_read;
-use access::guest_write;
-use access::latch;
-use access::port_read;
 use scan::capability_walk;
 use scan::size_probe;
+use shows::access::end_signal;
+use shows::access::guest_read;
+use shows::access::guest_write;
+use shows::access::latch;
+use shows::access::port_read;
 use twin::fresh;
 
 fn vid2() {

@@ -1,7 +1,7 @@
 // The size probe and the capability walk: each is made, and written as the paper writes it.
-use crate::print;
 use probe::Probed;
 use rules::State;
+use shows::print;
 use walk::Found;
 
 fn range(kind: &[u8], exponent: u32) {
@@ -19,12 +19,16 @@ fn probe_answer(p: Probed) {
     }
 }
 
-// `low` and `high` are the dwords read back.
-pub fn size_probe(low: u32, high: u32) {
+fn probe_line(low: u32, high: u32) {
     print::text(b"probe ");
     print::hex8(low);
     print::text(b" ");
     print::hex8(high);
+}
+
+// `low` and `high` are the dwords read back.
+pub fn size_probe(low: u32, high: u32) {
+    probe_line(low, high);
     probe_answer(probe::probe(low, high));
     print::text(b"\n");
 }
@@ -42,15 +46,23 @@ fn walk_answer(f: Found) {
     }
 }
 
-// Over the state's bytes: at a fresh state they are what a guest reads.
-pub fn capability_walk(s: State, want: u8) {
+fn walk_line(want: u8) {
     print::text(b"walk for ");
     print::hex2(want as u32);
+}
+
+fn walk_count(count: u32) {
+    print::text(b", count ");
+    print::decimal(count);
+    print::text(b"\n");
+}
+
+// Over the state's bytes: at a fresh state they are what a guest reads.
+pub fn capability_walk(s: State, want: u8) {
+    walk_line(want);
     let bytes = s.bytes;
     let w = walk::walk(&bytes, want);
     let found = w.found;
     walk_answer(found);
-    print::text(b", count ");
-    print::decimal(w.count);
-    print::text(b"\n");
+    walk_count(w.count);
 }

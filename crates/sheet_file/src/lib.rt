@@ -1,9 +1,7 @@
 // The sheet's file that a program's argument names: read, checked, and refused with a number for the session and a sentence for a person.
-use libc::STDERR_FILENO;
 use libc::STDOUT_FILENO;
-use sheet_rules::SheetAnswer;
 ghost use mathlib.Core.Path.{_≡_};
-ghost use Prim.Native.Nat.{_+_, _<_, _≤_};
+ghost use Prim.Native.Nat.{_+_, _≤_};
 ghost use lib.ListN.{length};
 
 // ---- reading
@@ -79,105 +77,6 @@ fn read_file(path: &[u8], buf: &mut [u8]) -> Got
     got
 }
 
-// ---- a person's side
-
-fn say(text: &[u8]) {
-    io::write_all(STDERR_FILENO, text);
-}
-
-fn say_number(n: u64) {
-    io::print_decimal(STDERR_FILENO, n);
-}
-
-// `entry 2 at 2C: `, with entries counted from 1.
-fn say_entry(s: &[u8], k: usize) {
-    let number = k % 64;
-    say(b"entry ");
-    say_number((number as u64) + 1);
-    say(b" at ");
-    let offset = sheet::byte_at(s, 4 * number + 1) as u32;
-    say(&[words::digit(offset / 16), words::digit(offset)]);
-    say(b": ");
-}
-
-// What is wrong with the entry of that number.
-fn complain_entry(s: &[u8], k: usize, what: &[u8]) {
-    say_entry(s, k);
-    say(what);
-}
-
-// The same, with a number in the middle.
-fn complain_number(s: &[u8], k: usize, what: &[u8], n: u64, more: &[u8]) {
-    say_entry(s, k);
-    say(what);
-    say_number(n);
-    say(more);
-}
-
-// A byte of the entry of that number.
-fn entry_byte(s: &[u8], k: usize, i: usize) -> u64
-    requires { ⌜ i ≤ 4 ⌝ }
-    ensures { λ r. ⌜ r < 256 ⌝ }
-{
-    sheet::byte_at(s, 4 * (k % 64) + i) as u64
-}
-
-// What is wrong with the whole sheet.
-fn complain_whole(what: &[u8], n: u64, more: &[u8]) {
-    say(what);
-    say_number(n);
-    say(more);
-}
-
-// What is wrong with a sheet, in one line.
-fn complain(s: &[u8], a: SheetAnswer) {
-    match a {
-        SheetAnswer::Good => say(b""),
-        SheetAnswer::Empty => say(b"the sheet is empty\n"),
-        SheetAnswer::Count => complain_whole(
-            b"byte 0 says ",
-            sheet::byte_at(s, 0) as u64,
-            b" entries, and a sheet has 1 to 64\n",
-        ),
-        SheetAnswer::Cut => complain_whole(
-            b"the contents are cut short: the sheet has ",
-            s.len() as u64,
-            b" bytes\n",
-        ),
-        SheetAnswer::Length(k) => complain_number(
-            s,
-            k,
-            b"its length is ",
-            entry_byte(s, k, 2),
-            b", and a register has 1 to 8 bytes\n",
-        ),
-        SheetAnswer::Order(k) => complain_entry(
-            s,
-            k,
-            b"its register starts before that of the entry before it ends\n",
-        ),
-        SheetAnswer::Past(k) => complain_entry(s, k, b"its register passes byte FF\n"),
-        SheetAnswer::Start(k) => complain_number(
-            s,
-            k,
-            b"its body starts at byte ",
-            entry_byte(s, k, 3) + entry_byte(s, k, 4) * 256,
-            b", not where the contents or the body before it end\n",
-        ),
-        SheetAnswer::Total => complain_whole(
-            b"the sheet has ",
-            s.len() as u64,
-            b" bytes, and its last body does not end there\n",
-        ),
-        SheetAnswer::Shared(k) => complain_entry(s, k, b"its guest and host masks share a bit\n"),
-        SheetAnswer::Outside(k) => complain_entry(
-            s,
-            k,
-            b"its reset mask has a bit outside its guest mask\n",
-        ),
-    }
-}
-
 // ---- the session's side
 
 // `NO n`, with a sheet's number.
@@ -200,14 +99,14 @@ pub struct Held {
 fn judge(s: &[u8]) -> bool {
     if LONGEST < s.len() {
         refuse(answer::SHEET_LENGTH);
-        say(b"the file is longer than the longest sheet, 1281 bytes\n");
+        sheet_faults::say(b"the file is longer than the longest sheet, 1281 bytes\n");
         return false;
     }
     let a = sheets::check(s);
     let number = sheets::number(a);
     if number != 0 {
         refuse(number);
-        complain(s, a);
+        sheet_faults::complain(s, a);
         return false;
     }
     true
@@ -219,7 +118,7 @@ pub fn named() -> Held
 {
     let mut bytes = room();
     if os::arg_count() != 2 {
-        say(b"one argument is wanted: the name of a register sheet's file\n");
+        sheet_faults::say(b"one argument is wanted: the name of a register sheet's file\n");
         return Held {
             bytes,
             n: 0,

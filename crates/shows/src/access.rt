@@ -16,14 +16,22 @@ fn write_answer(a: WriteAnswer) {
     }
 }
 
-// The state that the write leaves; more follows in its line.
-pub fn guest_write(s: State, offset: u32, lanes: u32, value: u32) -> State {
-    print::text(b"W ");
+fn place(offset: u32, lanes: u32) {
     print::hex2(offset);
     print::text(b" ");
     print::hex1(lanes);
+}
+
+fn write_line(offset: u32, lanes: u32, value: u32) {
+    print::text(b"W ");
+    place(offset, lanes);
     print::text(b" ");
     print::hex8(value);
+}
+
+// The state that the write leaves; more follows in its line.
+pub fn guest_write(s: State, offset: u32, lanes: u32, value: u32) -> State {
+    write_line(offset, lanes, value);
     let w = twin::write(s, offset, lanes, value);
     let answer = w.answer;
     write_answer(answer);
@@ -44,9 +52,7 @@ fn read_answer(a: ReadAnswer) {
 
 pub fn guest_read(s: State, offset: u32, lanes: u32) {
     print::text(b"R ");
-    print::hex2(offset);
-    print::text(b" ");
-    print::hex1(lanes);
+    place(offset, lanes);
     read_answer(twin::read(s, offset, lanes));
     print::text(b"\n");
 }
