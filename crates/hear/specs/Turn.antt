@@ -4,7 +4,7 @@ use mathlib.Core.List.{List}
 use Prim.Native.Nat.{ℕ}
 use Rattle.rules.specs.declared.State.{State}
 use Rattle.session.specs.Turn as T
-use Rattle.talk.specs.Console.{lineNext, lineSay}
+use Rattle.replies.specs.Console.{lineNext, lineSay}
 
 abbrev pub Turned : Bool → State → List ℕ → State → List ℕ → List ℕ → Type 0
 Turned on s k after text kept = T.Turned lineNext lineSay 27 on s k after text kept

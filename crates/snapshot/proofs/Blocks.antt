@@ -6,7 +6,7 @@ use Rattle.rules.specs.declared.State.{State}
 use Rattle.rules.specs.Fresh.{freshOf}
 use Rattle.rules.specs.Read.{imageOf}
 use Rattle.session.specs.Session.{joins, blocksState}
-use Rattle.talk.specs.Console.{lineNext, lineSay}
+use Rattle.replies.specs.Console.{lineNext, lineSay}
 use Rattle.talk.proofs.Console.{console-after}
 use Rattle.dumps.specs.Dump.{dumpText}
 use Rattle.snapshot.specs.Shown.{snapshotOf}

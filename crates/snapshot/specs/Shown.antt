@@ -4,7 +4,7 @@ use Prim.Native.Nat.{ℕ}
 use Rattle.rules.specs.Fresh.{freshOf}
 use Rattle.rules.specs.Read.{imageOf}
 use Rattle.session.specs.Session.{allLines, after}
-use Rattle.talk.specs.Console.{lineNext, lineSay}
+use Rattle.replies.specs.Console.{lineNext, lineSay}
 use Rattle.dumps.specs.Dump.{dumpText}
 
 abbrev pub snapshotOf : List ℕ → List ℕ

@@ -9,7 +9,7 @@ use Rattle.rules.specs.Fresh.{freshOf}
 use Rattle.call_forms.proofs.Long.{begin-alike}
 use Rattle.session.specs.Session.{joins, allLines, blocksText, after, blocksState}
 use Rattle.session.proofs.Blocks.{in-blocks, after-blocks}
-use Rattle.talk.specs.Console.{callNext, callSay, lineNext, lineSay, consoleOf}
+use Rattle.replies.specs.Console.{callNext, callSay, lineNext, lineSay, consoleOf}
 
 -- the first 27 bytes of a line say all
 next-alike : (s : State) (l k : List ℕ) → take 27 l ≡ take 27 k → lineNext s l ≡ lineNext s k

@@ -4,7 +4,7 @@ use native.Mathlib.Omega.{arith}
 use lib.ListN.{take}
 use lib.Seq.{length-take-le}
 use Rattle.session.proofs.Turns.{last-line}
-use Rattle.talk.specs.Console.{lineNext, lineSay}
+use Rattle.replies.specs.Console.{lineNext, lineSay}
 use borrow.Author.Needs.{needs}
 use Rattle.hear.proofs.last.Statement.{statement}
 use Rattle.hear.proofs.last.Tie as tie

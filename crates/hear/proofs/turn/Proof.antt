@@ -5,7 +5,7 @@ use native.Mathlib.Omega.{arith}
 use lib.ListN.{take}
 use lib.Seq.{length-take-le}
 use Rattle.session.proofs.Turns.{one-turn}
-use Rattle.talk.specs.Console.{lineNext, lineSay}
+use Rattle.replies.specs.Console.{lineNext, lineSay}
 use borrow.Author.Needs.{needs}
 use Rattle.hear.proofs.turn.Statement.{statement}
 use Rattle.hear.proofs.turn.Tie as tie

@@ -7,7 +7,7 @@ use Prim.Native.Nat.{_≤_, _-_, _*_}
 use lib.ListN.{length, drop, take}
 use Rattle.session.specs.Session.{playText, follow}
 use Rattle.session.proofs.Text.{steps, ends}
-use Rattle.talk.specs.Console.{lineNext, lineSay}
+use Rattle.replies.specs.Console.{lineNext, lineSay}
 use Rattle.talk.proofs.talk.Statement.{statement}
 use Rattle.talk.proofs.talk.Tie as tie
 

@@ -8,10 +8,10 @@ use Rattle.texts.specs.Text.{textOf}
 use Rattle.rules.specs.Access.{Outcome}
 use Rattle.play.specs.Player.{replyText, valueTextOf}
 use Rattle.says.specs.Answers.{claimText, probeText, answerText}
-use Rattle.talk.specs.Console.{callNext, callSay}
+use Rattle.replies.specs.Console.{callNext, callSay}
 use borrow.Author.Needs.{needs}
-use Rattle.talk.proofs.perform.Statement.{statement}
-use Rattle.talk.proofs.perform.Tie as tie
+use Rattle.replies.proofs.perform.Statement.{statement}
+use Rattle.replies.proofs.perform.Tie as tie
 
 -- what is said of an outcome p, and its state, where p is the rule's
 reached-is : (p o : Outcome) (a : List ℕ) (t : State) → (a ≡ replyText (p .reply)) × (t ≡ p .state) → p ≡ o → (a ≡ replyText (o .reply)) × (t ≡ o .state)

@@ -5,8 +5,8 @@ use Rattle.rules.specs.Events.{happens}
 use Rattle.texts.specs.Text.{textOf}
 use Rattle.play.specs.Player.{replyText, valueTextOf, nextOf, sayOf}
 use borrow.Author.Needs.{needs}
-use Rattle.talk.proofs.line.Statement.{statement}
-use Rattle.talk.proofs.line.Tie as tie
+use Rattle.replies.proofs.line.Statement.{statement}
+use Rattle.replies.proofs.line.Tie as tie
 
 enum-known-k : tie.Need-enum-known-k
 enum-known-k c = search needs

@@ -2,8 +2,8 @@
 use mathlib.Core.Path.{refl}
 use Rattle.says.specs.Answers.{answerText}
 use borrow.Author.Needs.{needs}
-use Rattle.talk.proofs.reach.Statement.{statement}
-use Rattle.talk.proofs.reach.Tie as tie
+use Rattle.replies.proofs.reach.Statement.{statement}
+use Rattle.replies.proofs.reach.Tie as tie
 
 window-said-requires : tie.Need-window-said-requires
 window-said-requires c κs = search needs

@@ -1,10 +1,10 @@
 -- A walk over the bytes as a guest reads them.
 use mathlib.Core.Path.{ap}
 use Rattle.says.specs.Answers.{walkText, answerText}
-use Rattle.talk.specs.Console.{callSay}
+use Rattle.replies.specs.Console.{callSay}
 use borrow.Author.Needs.{needs}
-use Rattle.talk.proofs.item.Statement.{statement}
-use Rattle.talk.proofs.item.Tie as tie
+use Rattle.replies.proofs.item.Statement.{statement}
+use Rattle.replies.proofs.item.Tie as tie
 
 image-requires : tie.Need-image-requires
 image-requires c κs = search needs
