@@ -2,7 +2,7 @@
 use mathlib.Core.Path.{_≡_, refl, ap, _∙_}
 use mathlib.Core.List.{List}
 use mathlib.Core.Bool.{Bool, true, false, not}
-use Prim.Native.Nat.{ℕ, _+_, _/_, _%_, _<_}
+use Prim.Native.Nat.{ℕ, _+_, _*_, _/_, _%_, _<_}
 use native.Mathlib.Omega.{arith}
 use lib.Dec.{T, eqb, ltb, eqb→eq}
 use borrow.Author.Tests.{eqb-false}
@@ -10,34 +10,36 @@ use Rattle.bits.specs.Bits.{bit, numberOf, byteOf}
 use Rattle.bits.specs.Choice.{pick, both, either, allBelow}
 use Rattle.bits.proofs.Laws.{number-ext}
 use Rattle.bits.proofs.Below.{below, both-left, both-right, is-true, is-false}
-use Rattle.answer.specs.Refusals.{ok}
-use Rattle.map.specs.Registers.{CAPPOINT, CAPL, SVID2, SID2, AFCTL, SWSCI}
+use Rattle.answer.specs.Refusals.{ok, no}
+use Rattle.map.specs.Registers.{CAPPOINT, CAPL, MSAC, SVID2, SID2, AFCTL, SWSCI}
 use Rattle.map.specs.Class.{Field, svid2, sid2, swsci15, once, computed, stores, isHost, sameClass}
 use Rattle.map.specs.Map.{rows, rowAt, classOf, defaults, defaultAt}
 use Rattle.map.proofs.Classes.{same-once, not-computed}
 use Rattle.rules.specs.declared.State.{State}
-use Rattle.rules.specs.Access.{byte, busy, badOffset, badLanes, done, refused}
+use Rattle.rules.specs.Access.{byte, busy, badOffset, badLanes, Outcome, done, refused}
 use Rattle.rules.specs.Guest.{writtenOf, stepOf, writeOf}
 use Rattle.rules.specs.Read.{pointer, shownBit, readBit, readValue, readOf}
 use Rattle.rules.specs.Host.{notHost, hostStepOf, hostOf}
 use Rattle.rules.specs.Reset.{reset, endedBit, endedOf, endOf}
-use Rattle.rules.specs.Ports.{badWidth, notOurs, atLatch, otherFunction, latched, portLanes, portValue, portWriteOf}
-use Rattle.rules.specs.Window.{badWindow, windowWriteOf, beyond, requestMask, completeOf, faultMask, faultOf, mirrorMask, mirrorUpdateOf}
-use Rattle.rules.specs.Events.{window-read, window-write, complete, fault, add-cycles, mirror-update, windowHappens, Event, read, write, port-read, port-write, host-update, end-signal, platform-reset, window, happens, run}
-use Rattle.rules.specs.Demand3.{Write-once, Read-only, Computed, Aperture, Refused, Reads, Busy, Started, Ended, Poll, lockedWord, Read-back-2C, Read-back-2E, Read-back-E8}
-use Rattle.rules.specs.History.{Seen, firstWrite, overDefault}
+use Rattle.rules.specs.Ports.{badWidth, notOurs, atLatch, otherFunction, latched, portLanes, portValue, portReadOf, portWriteOf}
+use Rattle.rules.specs.Window.{badWindow, windowReadOf, windowWriteOf, beyond, requestMask, completeOf, faultMask, faultOf, mirrorMask, mirrorUpdateOf}
+use Rattle.rules.specs.Events.{window-read, window-write, complete, fault, add-cycles, mirror-update, windowHappens, Event, read, write, port-read, port-write, host-update, end-signal, platform-reset, window, looked, happens, run}
+use Rattle.rules.specs.Demand3.{Write-once, Read-only, Computed, codeOf, Aperture, Refused, Reads, Busy, Started, Ended, Latch, Unlaned, Power, Poll, lockedWord, Read-back-2C, Read-back-2E, Read-back-E8}
+use Rattle.rules.specs.History.{Seen, seen, firstWrite, overDefault}
 use Rattle.rules.proofs.Lanes.{read-part}
 use Rattle.rules.proofs.EachBit.{bit-after, bit-ended, write-state, each-bit-read}
 use Rattle.rules.proofs.Once.{once-history}
 use Rattle.rules.proofs.Fixed.{fixed-history, default-holds}
-use Rattle.rules.proofs.Access.{good-offset}
-use Rattle.rules.proofs.Kept.{start-kept}
+use Rattle.rules.proofs.Access.{good-offset, not-within}
+use Rattle.rules.proofs.Kept.{left, start-kept}
+use Rattle.rules.proofs.NoLanes.{no-lanes-bit, no-lanes-flags}
 use Rattle.rules.proofs.Runs.{seen-run}
+use Rattle.rules.proofs.Numbers.{field-bit, size-named}
 use Rattle.rules.proofs.Size.{never-10}
 use Rattle.rules.proofs.Aligned.{aligned}
 
 pub write-once : Write-once
-write-once es f i j h k is = once-history f i j h k is es
+write-once es f i j h k is = once-history f i j h k (field-bit f i j h k is) es
 
 pub read-only : Read-only
 read-only es i j h k fixed = fixed-history i j h k fixed es
@@ -51,36 +53,56 @@ pub list-pointer : Computed
 list-pointer es = pointer-shown (run es) _ refl
 
 pub aperture : Aperture
-aperture es = (eqb-false _ 2 (never-10 es), aligned es)
+aperture es =
+    let no-10 = eqb-false _ 2 (never-10 es) in
+    let a = aligned es in
+    (no-10, (a .0, a .1 ∙ ap (λ (n : ℕ). a .0 * n) (size-named (codeOf es) (omega arith) no-10)))
 
 -- ---- refused events and reads
 
-one : (a : Bool) (n : ℕ) (s t : State) → (pick a (refused n s) (done t) .reply .number ≡ 0 → ⊥) → pick a (refused n s) (done t) .state ≡ s
-one true n s t r = refl
+-- where its number is not 0
+abbrev Unchanged : Outcome → State → Type 0
+Unchanged r s = (r .reply .number ≡ 0 → ⊥) → (r .reply .value ≡ 0) × (r .state ≡ s)
+
+one : (a : Bool) (n : ℕ) (s t : State) → Unchanged (pick a (refused n s) (done t)) s
+one true n s t r = (refl, refl)
 one false n s t r = absurd (r refl)
 
-two : (a b : Bool) (m n : ℕ) (s t : State) → (pick a (refused m s) (pick b (refused n s) (done t)) .reply .number ≡ 0 → ⊥) → pick a (refused m s) (pick b (refused n s) (done t)) .state ≡ s
-two true b m n s t r = refl
-two false true m n s t r = refl
+two : (a b : Bool) (m n : ℕ) (s t : State) → Unchanged (pick a (refused m s) (pick b (refused n s) (done t))) s
+two true b m n s t r = (refl, refl)
+two false true m n s t r = (refl, refl)
 two false false m n s t r = absurd (r refl)
 
-three : (a b c d : Bool) (l m n : ℕ) (s t u : State) → (pick a (refused l s) (pick b (refused m s) (pick c (done t) (pick d (refused n s) (done u)))) .reply .number ≡ 0 → ⊥) → pick a (refused l s) (pick b (refused m s) (pick c (done t) (pick d (refused n s) (done u)))) .state ≡ s
-three true b c d l m n s t u r = refl
-three false true c d l m n s t u r = refl
+-- a read, which leaves the state
+looks-two : (a b : Bool) (m n v : ℕ) (s : State) → Unchanged (looked (pick a (no m) (pick b (no n) (ok v))) s) s
+looks-two true b m n v s r = (refl, refl)
+looks-two false true m n v s r = (refl, refl)
+looks-two false false m n v s r = absurd (r refl)
+
+looks-three : (a b c d : Bool) (l m n u v : ℕ) (s : State) → Unchanged (looked (pick a (no l) (pick b (no m) (pick c (ok u) (pick d (no n) (ok v))))) s) s
+looks-three true b c d l m n u v s r = (refl, refl)
+looks-three false true c d l m n u v s r = (refl, refl)
+looks-three false false true d l m n u v s r = absurd (r refl)
+looks-three false false false true l m n u v s r = (refl, refl)
+looks-three false false false false l m n u v s r = absurd (r refl)
+
+three : (a b c d : Bool) (l m n : ℕ) (s t u : State) → Unchanged (pick a (refused l s) (pick b (refused m s) (pick c (done t) (pick d (refused n s) (done u))))) s
+three true b c d l m n s t u r = (refl, refl)
+three false true c d l m n s t u r = (refl, refl)
 three false false true d l m n s t u r = absurd (r refl)
-three false false false true l m n s t u r = refl
+three false false false true l m n s t u r = (refl, refl)
 three false false false false l m n s t u r = absurd (r refl)
 
 pub refused-changes-nothing : Refused
-unfolding happens writeOf hostOf portWriteOf windowHappens windowWriteOf completeOf faultOf mirrorUpdateOf
-refused-changes-nothing (read o l) s r = refl
+unfolding happens readOf writeOf hostOf portReadOf portWriteOf windowHappens windowReadOf windowWriteOf completeOf faultOf mirrorUpdateOf
+refused-changes-nothing (read o l) s r = looks-two (badOffset o) (badLanes l) _ _ _ s r
 refused-changes-nothing (write o l v) s r = two (badOffset o) (badLanes l) _ _ s (stepOf s o l v) r
-refused-changes-nothing (port-read p w) s r = refl
+refused-changes-nothing (port-read p w) s r = looks-three (badWidth w) (notOurs (s .latch) p w) (atLatch p w) (otherFunction (s .latch)) _ _ _ _ _ s r
 refused-changes-nothing (port-write p w v) s r = three (badWidth w) (notOurs (s .latch) p w) (atLatch p w) (otherFunction (s .latch)) _ _ _ s (latched s v) _ r
 refused-changes-nothing (host-update o m v) s r = two (ltb 255 o) (notHost o m) _ _ s (hostStepOf s o m v) r
 refused-changes-nothing end-signal s r = absurd (r refl)
 refused-changes-nothing platform-reset s r = absurd (r refl)
-refused-changes-nothing (window (window-read o l)) s r = refl
+refused-changes-nothing (window (window-read o l)) s r = looks-two (badWindow o) (badLanes l) _ _ _ s r
 refused-changes-nothing (window (window-write o l v)) s r = two (badWindow o) (badLanes l) _ _ s _ r
 refused-changes-nothing (window (complete m)) s r = one (beyond requestMask m) _ s _ r
 refused-changes-nothing (window (fault v)) s r = one (beyond faultMask v) _ s _ r
@@ -107,7 +129,30 @@ start-changes-nothing s o l v i j good t h k = rw (write-state s o l v) (go (not
 
 pub end-is : Ended
 unfolding endOf endedOf endedBit reset
-end-is s i j e h k = rw e (refl, bit-ended s i j h k)
+end-is s i j e h k = rw e (refl, refl, bit-ended s i j h k)
+
+-- ---- what stays
+
+pub latch-is : Latch
+latch-is es = ap (λ (x : Seen). x .latch) (seen-run es)
+
+pub no-lanes-no-change : Unlaned
+unfolding stepOf writtenOf
+no-lanes-no-change s o v = rw (write-state s o 0 v) (go (not (either (badOffset o) (badLanes 0))) (busy s))
+  where
+    go : (a b : Bool) → ((i j : ℕ) → i < 256 → j < 8 → bit (byte (pick a (pick b s (writtenOf s o 0 v)) s) i) j ≡ bit (byte s i) j) × (pick a (pick b s (writtenOf s o 0 v)) s .flags ≡ s .flags) × (pick a (pick b s (writtenOf s o 0 v)) s .latch ≡ s .latch)
+    go true true = (λ i j h k. refl, refl, refl)
+    go true false = (λ i j h k. bit-after s o 0 v i j h k ∙ no-lanes-bit s o v i j, no-lanes-flags o v (s .flags), refl)
+    go false b = (λ i j h k. refl, refl, refl)
+
+pub power-alone : Power
+unfolding stepOf
+power-alone s l v i j h k n = rw (write-state s 0xD4 l v) (go (not (either (badOffset 0xD4) (badLanes l))) (busy s))
+  where
+    go : (a b : Bool) → bit (byte (pick a (pick b s (writtenOf s 0xD4 l v)) s) i) j ≡ bit (byte s i) j
+    go true true = refl
+    go true false = bit-after s 0xD4 l v i j h k ∙ left s 0xD4 l v i j (not-within 0xD4 l MSAC (λ a b. omega arith)) (not-within 0xD4 l i (λ a b. n (omega arith)))
+    go false b = refl
 
 -- ---- what a guest reads back
 
@@ -134,11 +179,11 @@ sid2-locked = tt
 -- lanes 3 are the low word, lanes 12 the high
 pub read-back-2C : Read-back-2C
 unfolding readOf portLanes portValue numberOf
-read-back-2C es q = ap ok (read-part (run es) SVID2 0 2 2 refl ∙ omega (arith, word-reads svid2 SVID2 svid2-locked (omega arith) es q))
+read-back-2C es q = ap ok (read-part (run es) SVID2 0 2 2 refl ∙ omega (arith, word-reads svid2 SVID2 svid2-locked (omega arith) es (busy-is es ∙ q)))
 
 pub read-back-2E : Read-back-2E
 unfolding readOf portLanes portValue numberOf
-read-back-2E es q = ap ok (read-part (run es) SVID2 2 2 0 refl ∙ omega (arith, word-reads sid2 SID2 sid2-locked (omega arith) es q))
+read-back-2E es q = ap ok (read-part (run es) SVID2 2 2 0 refl ∙ omega (arith, word-reads sid2 SID2 sid2-locked (omega arith) es (busy-is es ∙ q)))
 
 -- AFCTL has no bit that a guest write stores or the host has, and default 0
 afctl-at : ℕ → Bool
@@ -160,7 +205,7 @@ afctl-shown es j h =
 
 pub poll : Poll
 unfolding readOf readValue readBit numberOf
-poll es = ap ok (go (busy (run es)) refl)
+poll es = ap ok (go (seen es .busy) (busy-is es))
   where
     go : (b : Bool) → busy (run es) ≡ b → readValue (run es) AFCTL 1 ≡ pick b 0xFFFFFFFF 0xFFFFFF00
     go true e = rw e
@@ -172,4 +217,4 @@ swsci-locked = refl
 
 pub read-back-E8 : Read-back-E8
 unfolding readOf readBit shownBit
-read-back-E8 es q = (readValue (run es) SWSCI 3, (refl, each-bit-read (run es) SWSCI 3 15 (omega arith) ∙ rw (q, swsci-locked) (once-history swsci15 (SWSCI + 1) 7 (omega arith) (omega arith) swsci-locked es)))
+read-back-E8 es q = (readValue (run es) SWSCI 3, (refl, each-bit-read (run es) SWSCI 3 15 (omega arith) ∙ rw (busy-is es ∙ q, swsci-locked) (once-history swsci15 (SWSCI + 1) 7 (omega arith) (omega arith) swsci-locked es)))

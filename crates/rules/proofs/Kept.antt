@@ -83,7 +83,7 @@ never-returned computed e = refl
 never-returned resetStart e = refl
 
 -- a bit whose byte is not enabled stays, where MSAC is not enabled either
-left : (s : State) (o l v i j : ℕ) → enabled o l MSAC ≡ false → enabled o l i ≡ false → bitAfter s o l v i j ≡ bit (byte s i) j
+pub left : (s : State) (o l v i j : ℕ) → enabled o l MSAC ≡ false → enabled o l i ≡ false → bitAfter s o l v i j ≡ bit (byte s i) j
 unfolding bitAfter clear storedBit store
 left s o l v i j m e = rw (m, e)
 

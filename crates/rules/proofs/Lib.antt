@@ -7,6 +7,7 @@ pub mod One
 pub mod Plain
 pub mod Kept
 pub mod Past
+mod Numbers
 pub mod Runs
 pub mod Good
 pub mod Once

@@ -29,7 +29,7 @@ pub no-lanes-bit : (s : State) (o v i j : ℕ) → bitAfter s o 0 v i j ≡ bit 
 unfolding bitAfter storedBit store clear
 no-lanes-bit s o v i j = rw (none-enabled o MSAC, none-enabled o i)
 
-no-lanes-flags : (o v : ℕ) (c : Flags) → flagsAfter o 0 v c ≡ c
+pub no-lanes-flags : (o v : ℕ) (c : Flags) → flagsAfter o 0 v c ≡ c
 unfolding flagsAfter starts
 no-lanes-flags o v c = rw (none-enabled o AFCTL) (simp none-touched)
 

@@ -23,6 +23,7 @@ use Rattle.rules.specs.Events.{Event, read, write, port-read, port-write
 use Rattle.rules.specs.History.{isReset, anyReset, since, GuestWrite, none, at, acceptedWrite, guestWrite, atStart, seenNext, touching, firstFrom, firstWrite, overDefault}
 use Rattle.rules.proofs.Access.{enabled-within}
 use Rattle.rules.proofs.EachBit.{bit-after, bit-hosted, bit-ended, host-state}
+use Rattle.rules.proofs.Numbers.{touches-are}
 use Rattle.rules.proofs.Kept.{only-stored, stored-off, ended-off, host-kept}
 use Rattle.rules.specs.Past as P
 use Rattle.rules.specs.Past.{ran}
@@ -38,7 +39,7 @@ closed-step swsci15 s o l v = raised-up (touches o l swsci15) (s .flags .swsci15
 
 closed-performed : (f : Field) (g : GuestWrite) (s : State) → closed (performed g s .flags) f ≡ either (touching f g) (closed (s .flags) f)
 closed-performed f none s = refl
-closed-performed f (at o l v) s = closed-step f s o l v
+closed-performed f (at o l v) s = closed-step f s o l v ∙ ap (λ (b : Bool). either b (closed (s .flags) f)) (touches-are f o l v)
 
 idle-closed : (f : Field) (c : Flags) → closed (idle c) f ≡ closed c f
 idle-closed svid2 c = refl
@@ -109,7 +110,7 @@ module _ (f : Field) (i j : ℕ) (h : i < 256) (k : j < 8) (is : classOf i j ≡
   -- not touched: it stays at its default
   untouched-bit : (g : GuestWrite) → touching f g ≡ false → overDefault g i j ≡ bit (defaultAt i) j
   untouched-bit none e = refl
-  untouched-bit (at o l v) e = rw (untouched o l e)
+  untouched-bit (at o l v) e = rw (untouched o l (touches-are f o l v ∙ e))
 
   -- ---- one event that is no platform reset, in the words of the history
 

@@ -20,6 +20,7 @@ use Rattle.rules.specs.Events.{WindowEvent, window-read, window-write, c
 use Rattle.rules.specs.History.{isReset, anyReset, since, latchAfter, GuestWrite, none, at, acceptedWrite, unlessBusy, guestWrite, starting, Seen, seenNext, seen}
 use Rattle.rules.specs.Past.{ran}
 use Rattle.rules.proofs.EachBit.{write-state, host-state}
+use Rattle.rules.proofs.Numbers.{direct-is, data-is}
 use Rattle.rules.proofs.Past as P
 
 -- ---- the events since the last platform reset
@@ -65,9 +66,9 @@ latch-width p w e =
 
 pub write-effect : (s : State) (o l v : ℕ) → writeOf s o l v .state ≡ performed (guestWrite (seenOf s) (write o l v)) s
 unfolding acceptedWrite stepOf
-write-effect s o l v = write-state s o l v ∙ go (either (badOffset o) (badLanes l)) (busy s)
+write-effect s o l v = write-state s o l v ∙ rw (direct-is o l) (go (not (either (badOffset o) (badLanes l))) (busy s))
   where
-    go : (a b : Bool) → pick (not a) (pick b s (writtenOf s o l v)) s ≡ performed (unlessBusy b (pick a none (at o l v))) s
+    go : (a b : Bool) → pick a (pick b s (writtenOf s o l v)) s ≡ performed (unlessBusy b (pick a (at o l v) none)) s
     go true true = refl
     go true false = refl
     go false true = refl
@@ -75,7 +76,7 @@ write-effect s o l v = write-state s o l v ∙ go (either (badOffset o) (badLane
 
 pub port-effect : (s : State) (p w v : ℕ) → portWriteOf s p w v .state ≡ withLatch (latchAfter (s .latch) (port-write p w v)) (performed (guestWrite (seenOf s) (port-write p w v)) s)
 unfolding portWriteOf notOurs acceptedWrite stepOf writtenOf
-port-effect s p w v = go (badWidth w) (notOurs (s .latch) p w) (atLatch p w) (otherFunction (s .latch)) (busy s) refl refl refl
+port-effect s p w v = rw (data-is (s .latch) p w) (go (badWidth w) (notOurs (s .latch) p w) (atLatch p w) (otherFunction (s .latch)) (busy s) refl refl refl)
   where
     o : ℕ
     o = dwordOf (s .latch)
@@ -86,7 +87,7 @@ port-effect s p w v = go (badWidth w) (notOurs (s .latch) p w) (atLatch p w) (ot
     x : ℕ
     x = placed v (p - DATA) w
 
-    go : (a b c d e : Bool) → badWidth w ≡ a → notOurs (s .latch) p w ≡ b → atLatch p w ≡ c → pick a (refused WIDTH s) (pick b (refused NOT-OURS s) (pick c (done (latched s v)) (pick d (refused OTHER-FUNCTION s) (done (pick e s (writtenOf s o l x)))))) .state ≡ withLatch (pick c (latchOf v) (s .latch)) (performed (unlessBusy e (pick (either a (either b (either c d))) none (at o l x))) s)
+    go : (a b c d e : Bool) → badWidth w ≡ a → notOurs (s .latch) p w ≡ b → atLatch p w ≡ c → pick a (refused WIDTH s) (pick b (refused NOT-OURS s) (pick c (done (latched s v)) (pick d (refused OTHER-FUNCTION s) (done (pick e s (writtenOf s o l x)))))) .state ≡ withLatch (pick c (latchOf v) (s .latch)) (performed (unlessBusy e (pick (not (either a (either b (either c d)))) (at o l x) none)) s)
     go true b true d e ea eb ec = absurd (subst T (sym ea ∙ latch-width p w ec) tt)
     go true b false d e ea eb ec = refl
     go false true true d e ea eb ec =
@@ -128,7 +129,7 @@ raised-up true x = refl
 raised-up false x = refl
 
 seen-performed : (g : GuestWrite) (s : State) → seenOf (performed g s) ≡ record { latch = s .latch; busy = either (starting g) (busy s) }
-unfolding writtenOf flagsAfter
+unfolding writtenOf flagsAfter starts
 seen-performed none s = refl
 seen-performed (at o l v) s = rw (raised-up (starts o l v) (s .flags .busy))
 

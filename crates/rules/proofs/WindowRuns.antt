@@ -10,7 +10,7 @@ use borrow.Author.Tests.{eq-eqb, le-ltb}
 use Rattle.bits.specs.Bits.{bit, numberOf}
 use Rattle.bits.specs.Choice.{pick, both, either, allBelow}
 use Rattle.bits.proofs.Laws.{number-ext, bit-number, bit<2, bit-zero}
-use Rattle.bits.proofs.Below.{pick-has, either-left, either-right, below, is-true}
+use Rattle.bits.proofs.Below.{both-off, pick-has, either-left, either-right, below, is-true}
 use Rattle.answer.specs.Refusals.{ok, LANES, NOT-HOST, WINDOW-OFFSET}
 use Rattle.map.specs.Registers.{PCICMD2, MSAC}
 use Rattle.rules.specs.declared.State.{State}
@@ -26,12 +26,12 @@ use Rattle.rules.specs.Plain.{Bits, undriven, laneValue, shownValue}
 use Rattle.rules.specs.Claims.{Claimed, unclaimed, claimed, translation, aperture, io, translationBase, apertureBase, translationExponent, holds, off, apertureClaim, memoryClaimOf}
 use Rattle.rules.specs.Window.{FAULT-REG, ASSRREQ, MTOUUD, MTOUUD-HIGH, MBDSM, DRAM-CYCLES, badWindow, withWindow, windowBit, windowReadBit, windowReadOf, withFault, withAssrreq, withMtouud, withMtouudh, withMbdsm, withCycles, clears, asks, acknowledged, requested, faulted, windowWritten, windowStepOf, windowWriteOf, beyond, masked, requestMask, completeOf, faultMask, faultOf, cyclesOf, mirrorMask, mirrored, mirrorUpdateOf}
 use Rattle.rules.specs.Events.{WindowEvent, window-read, window-write, complete, fault, add-cycles, mirror-update, windowHappens, Event, read, write, port-read, port-write, host-update, end-signal, platform-reset, window, happens, next, runFrom, run}
-use Rattle.rules.specs.History.{isReset, anyReset, since, GuestWrite, none, at, guestWrite}
-use Rattle.rules.specs.WindowRuns.{isMirror, inWindow, mirrorGives, mirrorBit, Mirrors, Mirrors-read, counted, total, Sum, clearing, Locked, Requests, Left, Apart, Window-busy, Window-lanes, Window-no-lanes, Claimed-reached}
+use Rattle.rules.specs.History.{isReset, anyReset, since, GuestWrite, none, at, Seen, guestWrite}
+use Rattle.rules.specs.WindowRuns.{isMirror, inWindow, mirrorGives, mirrorBit, Mirrors, Mirrors-read, counted, total, Sum, clearing, Locked, Requests, Left, Apart, Window-busy, Window-lanes, Window-no-lanes, Window-unlaned, Claimed-reached}
 use Rattle.rules.proofs.Past.{history}
 use Rattle.rules.proofs.EachBit.{host-state}
 use Rattle.rules.proofs.Lanes.{in-lanes, no-lanes}
-use Rattle.rules.proofs.Runs.{reset-forgets, run-since, since-none, each-keeps, performed, seenOf, write-effect, port-effect, window-effect}
+use Rattle.rules.proofs.Runs.{reset-forgets, run-since, since-none, each-keeps, performed, seenOf, seen-run, write-effect, port-effect, window-effect}
 
 -- ---- 5. what leaves the window, and what the window leaves
 
@@ -262,7 +262,7 @@ pub mirrors-read : Mirrors-read
 unfolding windowReadOf windowReadBit
 mirrors-read es o is q =
     let good : badWindow o ≡ false = mirror-cases (λ o. badWindow o ≡ false) refl refl refl o is in
-    rw good (ap ok (number-ext 32 _ _ (λ n h. lane-15 n _ h ∙ rw q (mirrors es o n is h))))
+    rw good (ap ok (number-ext 32 _ _ (λ n h. lane-15 n _ h ∙ rw (ap (λ (x : Seen). x .busy) (seen-run es) ∙ q) (mirrors es o n is h))))
 
 -- ---- 2. the cycle sum
 
@@ -306,15 +306,18 @@ cycle-sum es =
 
 -- ---- 4. requests
 
+requested-bit : (x l v n : ℕ) → n < 32 → bit (requested x l v) n ≡ pick (asks l v n) 1 (bit x n)
+unfolding requested
+requested-bit x l v n h = bit-number 32 (λ (j : ℕ). pick (asks l v j) 1 (bit x j)) (λ j. pick-has (λ (y : ℕ). y < 2) (asks l v j) 1 (bit x j) (omega arith) (bit<2 x j)) n h
+
 module _ (n : ℕ) (low : 4 ≤ n) (h : n < 32) where
   abbrev Clear : Mapped → Type 0
   Clear w = bit (w .assrreq) n ≡ 0
 
   requested-above : (x l v : ℕ) → bit x n ≡ 0 → bit (requested x l v) n ≡ 0
-  unfolding requested
   requested-above x l v z =
       let above : ltb n 4 ≡ false = le-ltb n 4 low in
-      bit-number 32 (λ (j : ℕ). pick (asks l v j) 1 (bit x j)) (λ j. pick-has (λ (y : ℕ). y < 2) (asks l v j) 1 (bit x j) (omega arith) (bit<2 x j)) n h ∙ rw above z
+      requested-bit x l v n h ∙ rw above z
 
   request-event : (e : WindowEvent) (s : State) → Clear (s .window) → Clear (windowHappens e s .state .window)
   unfolding windowHappens cyclesOf
@@ -387,6 +390,19 @@ window-lanes s o l k h =
 
 pub window-no-lanes : Window-no-lanes
 window-no-lanes s o = by-bytes s o 0 ∙ no-lanes (byteBit s o) o
+
+-- lanes 0 ask for no request and clear no fault
+none-asked : (v n : ℕ) → asks 0 v n ≡ false
+none-asked v n = rw (bit-zero (n / 8), both-off (ltb n 4))
+
+none-requested : (x v n : ℕ) → n < 32 → bit (requested x 0 v) n ≡ bit x n
+none-requested x v n h = requested-bit x 0 v n h ∙ rw (none-asked v n)
+
+pub window-no-change : Window-unlaned
+unfolding windowHappens windowBit acknowledged
+window-no-change s o v p n h =
+    write-has s (λ (w : Mapped). windowBit w p n ≡ windowBit (s .window) p n) refl o 0 v
+    (written-has (λ (w : Mapped). windowBit w p n ≡ windowBit (s .window) p n) (s .window) refl o 0 v (λ e. refl) (rw (none-requested (s .window .assrreq) v n h)))
 
 -- ---- 8. how an address gets there
 

@@ -40,6 +40,14 @@ summed = window (add-cycles 0xFFFFFFFF) ∷ window (add-cycles 3) ∷ []
 abbrev busied : List Event
 busied = write AFCTL 1 1 ∷ window (window-write ASSRREQ 15 0x00010001) ∷ window (add-cycles 7) ∷ []
 
+-- a fault and a completion that the host gives while busy
+abbrev served : List Event
+served = window (window-write ASSRREQ 15 0x00010001) ∷ write AFCTL 1 1 ∷ window (fault 0x1152) ∷ window (complete 1) ∷ end-signal ∷ []
+
+-- a fault is not cleared by a write of ones
+abbrev uncleared : List Event
+uncleared = window (fault 0x1152) ∷ window (window-write FAULT-REG 1 1) ∷ []
+
 -- GTTMMADR is placed
 abbrev placed : List Event
 placed = write GTTMMADR 15 0xF7800000 ∷ write PCICMD2 1 2 ∷ []
@@ -51,6 +59,9 @@ pub record Witnessed : Type 0 where
   pub reflected-bit : mirrorBit MBDSM 0 reflected ≡ 1
   pub faults-read : windowReadOf (run faults) FAULT-REG 15 ≡ ok 0x00001153
   pub cleared-read : windowReadOf (run cleared) FAULT-REG 15 ≡ ok 0x00004009
+  pub uncleared-read : windowReadOf (run uncleared) FAULT-REG 15 ≡ ok 0x00001153
+  pub served-fault : windowReadOf (run served) FAULT-REG 15 ≡ ok 0x00001153
+  pub served-request : windowReadOf (run served) ASSRREQ 15 ≡ ok 0
   pub asked-read : windowReadOf (run asked) ASSRREQ 15 ≡ ok 0x00000002
   pub asked-lane : windowReadOf (run asked) ASSRREQ 1 ≡ ok 0xFFFFFF02
   pub summed-read : windowReadOf (run summed) DRAM-CYCLES 15 ≡ ok 0x00000002
@@ -78,6 +89,9 @@ witnessed = record {
   reflected-bit = refl;
   faults-read = refl;
   cleared-read = refl;
+  uncleared-read = refl;
+  served-fault = refl;
+  served-request = refl;
   asked-read = refl;
   asked-lane = refl;
   summed-read = refl;

@@ -3,7 +3,7 @@ use mathlib.Core.Path.{_≡_, refl}
 use mathlib.Core.List.{List, [], _∷_}
 use mathlib.Core.Bool.{true, false}
 use Rattle.bits.specs.Bits.{numberOf}
-use Rattle.answer.specs.Refusals.{ok, no, OFFSET, LANES, NOT-HOST, OTHER-FUNCTION}
+use Rattle.answer.specs.Refusals.{ok, no, NOT-OURS, OTHER-FUNCTION, OFFSET, LANES, NOT-HOST}
 use Rattle.map.specs.Registers.{VID2, DID2, PCICMD2, GMADR, SVID2, CAPPOINT, HSRW, AFCTL, SWSCI}
 use Rattle.map.specs.Class.{svid2, sid2, swsci15}
 use Rattle.map.specs.Map.{rows, rowAt, classOf, defaults}
@@ -54,6 +54,22 @@ listed = write 0x7C 8 0x01000000 ∷ []
 abbrev enlarged : List Event
 enlarged = write GMADR 15 0xFFFFFFFF ∷ write HSRW 4 0x00060000 ∷ write HSRW 4 0x00040000 ∷ write GMADR 15 0xFFFFFFFF ∷ []
 
+-- bit 15 of SWSCI is not closed by byte E8
+abbrev beside : List Event
+beside = write SWSCI 1 1 ∷ write SWSCI 2 0x8000 ∷ []
+
+-- lanes 0 close nothing
+abbrev unlaned : List Event
+unlaned = write SVID2 0 0xFFFF ∷ write SVID2 3 0x1234 ∷ []
+
+-- the power state goes to 11, 10 and 01 leave it there, and nothing else changes
+abbrev powered : List Event
+powered = write PCICMD2 1 7 ∷ write 0xD4 1 3 ∷ write 0xD4 1 2 ∷ write 0xD4 1 1 ∷ []
+
+-- the latch stays through a function reset
+abbrev latching : List Event
+latching = port-write 0xCF8 4 0x80001000 ∷ write AFCTL 1 1 ∷ end-signal ∷ []
+
 -- ---- what they come to
 
 pub record Witnessed : Type 0 where
@@ -66,6 +82,8 @@ pub record Witnessed : Type 0 where
   pub ports-read : readOf (run ports) SVID2 15 ≡ ok 0xABCD1234
   pub default-first : firstWrite swsci15 default ≡ at SWSCI 2 0
   pub default-read : readOf (run default) SWSCI 15 ≡ ok 0x00000001
+  pub beside-read : readOf (run beside) SWSCI 15 ≡ ok 0x00008001
+  pub unlaned-read : readOf (run unlaned) SVID2 15 ≡ ok 0x00001234
   -- 2. read-only
   pub twice-low : lastUpdate DID2 1 twice ≡ given 1
   pub twice-high : lastUpdate DID2 4 twice ≡ given 1
@@ -77,16 +95,22 @@ pub record Witnessed : Type 0 where
   -- 4. the aperture
   pub enlarged-code : codeOf enlarged ≡ 3
   pub enlarged-base : apertureBase (run enlarged) ≡ 0xE0000000
+  -- the power state
+  pub powered-read : readOf (run powered) 0xD4 15 ≡ ok 0x00000003
+  pub powered-other : readOf (run powered) PCICMD2 15 ≡ ok 0x00900007
   -- 5. refused events
   pub offset-refused : happens (write 0x2D 15 1) freshOf .reply ≡ no OFFSET
   pub update-refused : happens (host-update VID2 0x01 0) freshOf .reply ≡ no NOT-HOST
   pub port-refused : happens (port-write 0xCFC 4 1) (run (port-write 0xCF8 4 0x80001800 ∷ [])) .reply ≡ no OTHER-FUNCTION
+  pub function-refused : happens (port-read 0xCFC 4) (run (port-write 0xCF8 4 0x80001400 ∷ [])) .reply ≡ no OTHER-FUNCTION
+  pub value-refused : happens (port-read 0xCFC 4) freshOf .reply ≡ no NOT-OURS
   -- 6. busy
   pub started-busy : seen started .busy ≡ true
   pub started-read : readOf (run started) VID2 5 ≡ ok 0xFFFFFFFF
   pub started-held : byte (run started) PCICMD2 ≡ 7
   pub started-given : byte (run started) DID2 ≡ 0x11
   pub ended-busy : seen halves .busy ≡ false
+  pub latching-read : happens (port-read 0xCF8 4) (run latching) .reply ≡ ok 0x80001000
   -- lanes that are not enabled, and the same bytes through the port pair
   pub split-read : readOf freshOf VID2 5 ≡ ok 0xFF52FF86
   pub high-read : readOf freshOf VID2 12 ≡ ok 0x0152FFFF
@@ -105,6 +129,10 @@ witnessed = record {
   ports-read = refl;
   default-first = refl;
   default-read = refl;
+  beside-read = refl;
+  unlaned-read = refl;
+  powered-read = refl;
+  powered-other = refl;
   twice-low = refl;
   twice-high = refl;
   twice-never = refl;
@@ -126,4 +154,7 @@ witnessed = record {
   offset-refused = refl;
   update-refused = refl;
   port-refused = refl;
+  function-refused = refl;
+  value-refused = refl;
+  latching-read = refl;
 }

@@ -8,23 +8,23 @@ use Rattle.bits.specs.Bits.{bit, numberOf, byteOf}
 use Rattle.bits.specs.Choice.{if_then_else_, _is_}
 use Rattle.answer.specs.Refusals.{ok}
 use Rattle.map.specs.Registers.{SVID2, SID2, CAPPOINT, CAPL, MSAC, AFCTL, SWSCI}
-use Rattle.map.specs.Class.{Field, svid2, sid2, swsci15, once, resetStart, stores, hasF, sameClass}
+use Rattle.map.specs.Class.{Field, svid2, sid2, swsci15, resetStart, stores, hasF, sameClass}
 use Rattle.map.specs.Map.{classOf, defaultAt}
 use Rattle.rules.specs.declared.State.{State}
 use Rattle.rules.specs.Access.{byte, busy, badOffset}
-use Rattle.rules.specs.Guest.{sizeOf, exponentOf, starts, writeOf}
+use Rattle.rules.specs.Guest.{sizeOf, starts, writeOf}
 use Rattle.rules.specs.Read.{shownBit, readOf}
 use Rattle.rules.specs.Plain.{readReply, shownValue}
 use Rattle.rules.specs.Reset.{endOf}
 use Rattle.rules.specs.Ports.{atLatch, portValue, portWriteOf}
 use Rattle.rules.specs.Claims.{apertureBase, unclaimed, memoryClaimOf, ioClaimOf}
 use Rattle.rules.specs.Events.{window-read, Event, read, port-read, window, happens, run}
-use Rattle.rules.specs.History.{seen, firstWrite, overDefault, lastUpdate, orDefault}
+use Rattle.rules.specs.History.{seen, bitOf, firstWrite, overDefault, lastUpdate, orDefault}
 
 -- 1. Since the last platform reset, or the start, each write-once field holds its default until the first accepted guest write to this
 -- function that enables one of its bytes, and from then on that write's enabled bytes over the default, whatever follows. A write that is dropped counts as none.
 abbrev pub Write-once : Type 0
-Write-once = (es : List Event) (f : Field) (i j : ℕ) → i < 256 → j < 8 → classOf i j ≡ once f → bit (byte (run es) i) j ≡ overDefault (firstWrite f es) i j
+Write-once = (es : List Event) (f : Field) (i j : ℕ) → i < 256 → j < 8 → bitOf f i j ≡ true → bit (byte (run es) i) j ≡ overDefault (firstWrite f es) i j
 
 -- 2. Read-only bits hold their default, or what the last accepted host update since then that masked them gave.
 -- (Read-only: no guest write stores the bit. Host bits are among them; the byte behind the computed pointer and AFCTL's bit too.)
@@ -39,12 +39,16 @@ Computed = (es : List Event) → byteOf (shownBit (run es) CAPPOINT) ≡ (if bit
 abbrev pub codeOf : List Event → ℕ
 codeOf es = sizeOf (byte (run es) MSAC)
 
-abbrev pub Aperture : Type 0
-Aperture = (es : List Event) → (codeOf es ≡ 2 → ⊥) × ((q : ℕ) × (apertureBase (run es) ≡ q * 2 ^ exponentOf (codeOf es)))
+-- 00 names 128 MB, 01 names 256 MB, 11 names 512 MB
+abbrev pub sizeNamed : ℕ → ℕ
+sizeNamed code = if code is 0 then 128 * 2 ^ 20 else if code is 1 then 256 * 2 ^ 20 else 512 * 2 ^ 20
 
--- 5. A refused event changes nothing; a read changes nothing. In every state, of foreign making too.
+abbrev pub Aperture : Type 0
+Aperture = (es : List Event) → (codeOf es ≡ 2 → ⊥) × ((q : ℕ) × (apertureBase (run es) ≡ q * sizeNamed (codeOf es)))
+
+-- 5. A refused event has zero beside its number and changes nothing; a read changes nothing. In every state, of foreign making too.
 abbrev pub Refused : Type 0
-Refused = (e : Event) (s : State) → (happens e s .reply .number ≡ 0 → ⊥) → happens e s .state ≡ s
+Refused = (e : Event) (s : State) → (happens e s .reply .number ≡ 0 → ⊥) → (happens e s .reply .value ≡ 0) × (happens e s .state ≡ s)
 
 abbrev pub Reads : Type 0
 Reads = (s : State) (a b : ℕ) → (happens (read a b) s .state ≡ s) × (happens (port-read a b) s .state ≡ s) × (happens (window (window-read a b)) s .state ≡ s)
@@ -69,13 +73,25 @@ Unclaimed = (s : State) (a : ℕ) → busy s ≡ true → (memoryClaimOf s a ≡
 abbrev pub Started : Type 0
 Started = (s : State) (o l v i j : ℕ) → badOffset o ≡ false → starts o l v ≡ true → i < 256 → j < 8 → bit (byte (writeOf s o l v .state) i) j ≡ bit (byte s i) j
 
--- At the end signal F bits hold their defaults, the bit that starts a reset is 0, every other bit stays, and the state is not busy.
+-- At the end signal F bits hold their defaults, the bit that starts a reset is 0, every other bit stays, the latch too, and the state is not busy.
 abbrev pub Ended : Type 0
-Ended = (s : State) (i j : ℕ) → busy s ≡ true → i < 256 → j < 8 → (busy (endOf s) ≡ false) × (bit (byte (endOf s) i) j ≡ (if hasF (classOf i j) then bit (defaultAt i) j else if sameClass (classOf i j) resetStart then 0 else bit (byte s i) j))
+Ended = (s : State) (i j : ℕ) → busy s ≡ true → i < 256 → j < 8 → (busy (endOf s) ≡ false) × (endOf s .latch ≡ s .latch) × (bit (byte (endOf s) i) j ≡ (if hasF (classOf i j) then bit (defaultAt i) j else if sameClass (classOf i j) resetStart then 0 else bit (byte s i) j))
 
 -- When not busy it changes nothing.
 abbrev pub Unended : Type 0
 Unended = (s : State) → busy s ≡ false → endOf s ≡ s
+
+-- 8. The latch is what the last 4-byte write to CF8h since the last platform reset stored, or 0: nothing else changes it.
+abbrev pub Latch : Type 0
+Latch = (es : List Event) → run es .latch ≡ seen es .latch
+
+-- 9. A write with lanes 0 changes nothing, in every state.
+abbrev pub Unlaned : Type 0
+Unlaned = (s : State) (o v : ℕ) → ((i j : ℕ) → i < 256 → j < 8 → bit (byte (writeOf s o 0 v .state) i) j ≡ bit (byte s i) j) × (writeOf s o 0 v .state .flags ≡ s .flags) × (writeOf s o 0 v .state .latch ≡ s .latch)
+
+-- 10. No change of power state resets or alters any other bit: a write to the dword at D4 leaves every byte of the others, in every state.
+abbrev pub Power : Type 0
+Power = (s : State) (l v i j : ℕ) → i < 256 → j < 8 → (i / 4 * 4 ≡ 0xD4 → ⊥) → bit (byte (writeOf s 0xD4 l v .state) i) j ≡ bit (byte s i) j
 
 -- ---- for a reader's eye: what a guest reads back after any run
 
@@ -85,15 +101,15 @@ lockedWord f at es = numberOf 16 (λ (n : ℕ). overDefault (firstWrite f es) (a
 
 -- at 2C: SVID2 in the low word, SID2 in the high; the word that is not enabled reads FFFF
 abbrev pub Read-back-2C : Type 0
-Read-back-2C = (es : List Event) → busy (run es) ≡ false → readOf (run es) SVID2 3 ≡ ok (lockedWord svid2 SVID2 es + 0xFFFF0000)
+Read-back-2C = (es : List Event) → seen es .busy ≡ false → readOf (run es) SVID2 3 ≡ ok (lockedWord svid2 SVID2 es + 0xFFFF0000)
 
 abbrev pub Read-back-2E : Type 0
-Read-back-2E = (es : List Event) → busy (run es) ≡ false → readOf (run es) SVID2 12 ≡ ok (lockedWord sid2 SID2 es * 2 ^ 16 + 0xFFFF)
+Read-back-2E = (es : List Event) → seen es .busy ≡ false → readOf (run es) SVID2 12 ≡ ok (lockedWord sid2 SID2 es * 2 ^ 16 + 0xFFFF)
 
 -- at E8: bit 15 is the lock, whatever the other bits are
 abbrev pub Read-back-E8 : Type 0
-Read-back-E8 = (es : List Event) → busy (run es) ≡ false → (v : ℕ) × ((readOf (run es) SWSCI 3 ≡ ok v) × (bit v 15 ≡ overDefault (firstWrite swsci15 es) (SWSCI + 1) 7))
+Read-back-E8 = (es : List Event) → seen es .busy ≡ false → (v : ℕ) × ((readOf (run es) SWSCI 3 ≡ ok v) × (bit v 15 ≡ overDefault (firstWrite swsci15 es) (SWSCI + 1) 7))
 
 -- what a driver polls for: AFCTL, in lane 0, reads FF while busy, and 0 otherwise
 abbrev pub Poll : Type 0
-Poll = (es : List Event) → readOf (run es) AFCTL 1 ≡ ok (if busy (run es) then 0xFFFFFFFF else 0xFFFFFF00)
+Poll = (es : List Event) → readOf (run es) AFCTL 1 ≡ ok (if seen es .busy then 0xFFFFFFFF else 0xFFFFFF00)

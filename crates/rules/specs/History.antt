@@ -1,17 +1,16 @@
--- The history of a bit, from the list of events alone: no state is asked.
+-- The history of a bit, from the list of events alone: no state is asked. What a guest write must be to count is said in the paper's numbers and not by the machine's tests.
 use mathlib.Core.List.{List, [], _∷_}
 use mathlib.Core.Bool.{Bool, true, false}
-use Prim.Native.Nat.{ℕ, _-_}
-use Rattle.bits.specs.Bits.{bit}
-use Rattle.bits.specs.Choice.{if_then_else_, _or_}
-use Rattle.map.specs.Class.{Field, isHost}
+use Prim.Native.Nat.{ℕ, _+_, _-_, _*_, _%_}
+use Rattle.bits.specs.Bits.{bit, field}
+use Rattle.bits.specs.Choice.{if_then_else_, _and_, _or_, _is_, _≤?_, _<?_, anyBelow}
+use Rattle.map.specs.Class.{Field, svid2, sid2, swsci15, isHost}
 use Rattle.map.specs.Map.{classOf, defaultAt}
 use Rattle.rules.specs.Past as P
 use Rattle.rules.specs.Past.{Given, nothing, orHeld, lastGiven}
 use Rattle.rules.specs.Plain.{updateGives}
-use Rattle.rules.specs.Access.{enabled, byteFor, badOffset, badLanes}
-use Rattle.rules.specs.Guest.{touches, starts}
-use Rattle.rules.specs.Ports.{DATA, badWidth, atLatch, notOurs, otherFunction, latchOf, dwordOf, portLanes, placed}
+use Rattle.rules.specs.Access.{enabled, byteFor}
+use Rattle.rules.specs.Ports.{latchOf, portLanes, placed}
 use Rattle.rules.specs.Events.{Event, read, write, port-read, port-write, host-update, end-signal, platform-reset, window}
 
 -- ---- the events since the last platform reset, or the start
@@ -38,7 +37,7 @@ abbrev pub latchAfter : ℕ → Event → ℕ
 latchAfter x (read o l) = x
 latchAfter x (write o l v) = x
 latchAfter x (port-read p w) = x
-latchAfter x (port-write p w v) = if atLatch p w then latchOf v else x
+latchAfter x (port-write p w v) = if p is 0xCF8 and w is 4 then latchOf v else x
 latchAfter x (host-update o m v) = x
 latchAfter x end-signal = x
 latchAfter x platform-reset = 0
@@ -51,14 +50,22 @@ pub data GuestWrite : Type 0 where
   -- offset, lanes, value
   at : ℕ → ℕ → ℕ → GuestWrite
 
+-- a direct access: a dword of the 256 bytes, and lanes 0 to 15
+abbrev pub direct : ℕ → ℕ → Bool
+direct o l = o <? 256 and o % 4 is 0 and l <? 16
+
+-- a data access: 1, 2 or 4 bytes within CFCh to CFFh, where the latch x has bit 31 set and names bus 0, device 2, function 0 in bits 23:8
+abbrev pub data-access : ℕ → ℕ → ℕ → Bool
+data-access x p w = (w is 1 or w is 2 or w is 4) and 0xCFC ≤? p and p + w ≤? 0xD00 and bit x 31 is 1 and field x 23 8 is 0x0010
+
 -- the guest write that an event comes to, where the latch holds x
 unfoldable pub acceptedWrite : ℕ → Event → GuestWrite
 acceptedWrite x (read o l) = none
-acceptedWrite x (write o l v) = if badOffset o or badLanes l then none else at o l v
+acceptedWrite x (write o l v) = if direct o l then at o l v else none
 acceptedWrite x (port-read p w) = none
 acceptedWrite x (port-write p w v) =
-    if badWidth w or notOurs x p w or atLatch p w or otherFunction x then none
-    else at (dwordOf x) (portLanes (p - DATA) w) (placed v (p - DATA) w)
+    if data-access x p w then at (field x 7 2 * 4) (portLanes (p - 0xCFC) w) (placed v (p - 0xCFC) w)
+    else none
 acceptedWrite x (host-update o m v) = none
 acceptedWrite x end-signal = none
 acceptedWrite x platform-reset = none
@@ -81,9 +88,10 @@ unlessBusy b (at o l v) = if b then none else at o l v
 abbrev pub guestWrite : Seen → Event → GuestWrite
 guestWrite x e = unlessBusy (x .busy) (acceptedWrite (x .latch) e)
 
+-- it writes 1 to bit 0 of byte A8
 abbrev pub starting : GuestWrite → Bool
 starting none = false
-starting (at o l v) = starts o l v
+starting (at o l v) = enabled o l 0xA8 and bit (byteFor o v 0xA8) 0 is 1
 
 -- from a write that starts a function reset until the end signal, or a platform reset
 abbrev pub busyAfter : Seen → Event → Bool
@@ -104,10 +112,22 @@ seen es = P.ran seenNext atStart es
 
 -- ---- the first write to a field
 
--- it enables a byte of the field
+-- the bytes of each field: SVID2 is 2C and 2D, SID2 2E and 2F, SWSCI's bit 15 is in E9
+abbrev pub inField : Field → ℕ → Bool
+inField svid2 i = i is 0x2C or i is 0x2D
+inField sid2 i = i is 0x2E or i is 0x2F
+inField swsci15 i = i is 0xE9
+
+-- its bits: all of these bytes, of E9 bit 7 alone
+abbrev pub bitOf : Field → ℕ → ℕ → Bool
+bitOf svid2 i j = inField svid2 i
+bitOf sid2 i j = inField sid2 i
+bitOf swsci15 i j = inField swsci15 i and j is 7
+
+-- one of the write's four lanes is enabled for a byte of the field
 abbrev pub touching : Field → GuestWrite → Bool
 touching f none = false
-touching f (at o l v) = touches o l f
+touching f (at o l v) = anyBelow 4 (λ (k : ℕ). bit l k is 1 and inField f (o + k))
 
 -- the first of them that does
 unfoldable pub firstFrom : Seen → Field → List Event → GuestWrite

@@ -13,7 +13,7 @@ use Rattle.rules.specs.Plain.{laneValue}
 use Rattle.rules.specs.Claims.{claimed, translation, memoryClaimOf}
 use Rattle.rules.specs.Window.{FAULT-REG, MTOUUD, MTOUUD-HIGH, MBDSM, badWindow, windowBit, windowReadBit, windowReadOf, clears, windowWriteOf, beyond, mirrorMask}
 use Rattle.rules.specs.Events.{WindowEvent, window-read, window-write, complete, fault, add-cycles, mirror-update, windowHappens, Event, read, write, port-read, port-write, host-update, end-signal, platform-reset, window, happens, run}
-use Rattle.rules.specs.History.{isReset, since}
+use Rattle.rules.specs.History.{isReset, since, seen}
 
 -- ---- 1. demand 3's read-only clause, of the mirrors
 
@@ -49,7 +49,7 @@ Mirrors = (es : List Event) (o n : ℕ) → isMirror o ≡ true → n < 32 → w
 
 -- for a reader's eye: what a guest reads there, where no function reset is under way
 abbrev pub Mirrors-read : Type 0
-Mirrors-read = (es : List Event) (o : ℕ) → isMirror o ≡ true → busy (run es) ≡ false → windowReadOf (run es) o 15 ≡ ok (numberOf 32 (λ (n : ℕ). mirrorBit o n es))
+Mirrors-read = (es : List Event) (o : ℕ) → isMirror o ≡ true → seen es .busy ≡ false → windowReadOf (run es) o 15 ≡ ok (numberOf 32 (λ (n : ℕ). mirrorBit o n es))
 
 -- ---- 2. the cycle sum is that of the counts added since then, past 32 bits wrapped
 
@@ -107,6 +107,10 @@ Window-lanes = (s : State) (o l k : ℕ) → k < 4 → byteFor o (laneValue (win
 
 abbrev pub Window-no-lanes : Type 0
 Window-no-lanes = (s : State) (o : ℕ) → laneValue (windowReadBit s o) 0 ≡ 0xFFFFFFFF
+
+-- a write with lanes 0 changes nothing
+abbrev pub Window-unlaned : Type 0
+Window-unlaned = (s : State) (o v p n : ℕ) → n < 32 → windowBit (windowWriteOf s o 0 v .state .window) p n ≡ windowBit (s .window) p n
 
 -- ---- 8. how an address gets there: the offset of a claim of the translation window, of a multiple of 4, is an offset of the window
 
