@@ -1,3 +1,4 @@
 pub mod Bridge
 pub mod ReadOnly
 pub mod One
+pub mod Rows

@@ -54,6 +54,9 @@ module _ (t : Tables) where
   abbrev pub Inside : Type 0
   Inside = (i j : ℕ) → i < 256 → j < 8 → under (t .guests) i j ≡ false → under (t .resets) i j ≡ false
 
-  -- a bit that no guest mask has holds its default, or what the last accepted host update since then that masked it gave
+  -- of the bytes m after events es: a bit that no guest mask has holds its default, or what the last accepted host update since then that masked it gave
+  abbrev pub Read-only-after : List Event → List ℕ → Type 0
+  Read-only-after es m = (i j : ℕ) → i < 256 → j < 8 → under (t .guests) i j ≡ false → held m i j ≡ orHeld (lastUpdate i j es) (held (t .defaults) i j)
+
   abbrev pub Read-only : Type 0
-  Read-only = (es : List Event) (i j : ℕ) → i < 256 → j < 8 → under (t .guests) i j ≡ false → held (run es) i j ≡ orHeld (lastUpdate i j es) (held (t .defaults) i j)
+  Read-only = (es : List Event) → Read-only-after es (run es)

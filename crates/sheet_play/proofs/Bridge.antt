@@ -1,4 +1,4 @@
--- A line played over lent bytes comes to the rules, for tables whose defaults are 256 bytes; so the sheet player's answers are those that the rules give, line by line, in whatever blocks the input comes.
+-- A line played over lent bytes comes to the rules, for tables whose defaults are 256 bytes; so the sheet player's answers are those that the rules give, line by line, in whatever blocks the input comes, and its bytes are what the run of the lines' events leaves.
 use mathlib.Core.Path.{_≡_, refl, ap, _∙_}
 use mathlib.Core.List.{List, [], _∷_}
 use mathlib.Core.Bool.{Bool, true, false}
@@ -23,11 +23,13 @@ use Rattle.plain.specs.Bytes.{returnedOf}
 use Rattle.updates.specs.Update.{lent}
 use Rattle.device.specs.declared.Tables.{Tables}
 use Rattle.device.specs.Device.{made, writeOf, hostOf, functionResetOf}
+use Rattle.device.specs.ReadOnly.{function-reset, next, run}
 use Rattle.device.proofs.Bridge.{read-is, write-is, update-is, reset-is}
-use Rattle.session.specs.Session.{answers, allLines, joins, blocksText}
-use Rattle.session.proofs.Blocks.{in-blocks}
+use Rattle.session.specs.Session.{answers, after, allLines, joins, blocksText, blocksState}
+use Rattle.session.proofs.Blocks.{in-blocks, after-blocks}
 use Rattle.sheet_play.specs.Box.{Box, box, boxNext, boxSay, lineBox, lineText}
-use Rattle.sheet_play.specs.Player.{isZ, nextOf, sayOf, lineNext, lineSay, sheetPlayerOf}
+use Rattle.sheet_play.specs.Player.{Meant, event, meantBy, isZ, eventsOf, leaves, sayOf, lineNext, lineSay, sheetPlayerOf}
+use Rattle.sheet_play.proofs.Events.{session-runs}
 
 -- ---- 256 bytes
 
@@ -69,8 +71,8 @@ module _ (t : Tables) (d : Good (t .defaults)) where
     say-is End = refl
     say-is Bad = refl
 
-    next-is : (k : Command) → boxNext (boxed-with t m) k ≡ boxed-with t (nextOf t m k)
-    unfolding boxNext nextOf
+    next-is : (k : Command) → boxNext (boxed-with t m) k ≡ boxed-with t (leaves t (meantBy k) m)
+    unfolding boxNext meantBy next
     next-is (Write o l v) = rw (write-is m (g .fits) (g .long) (t .guests) o l v)
     next-is (Read o l) = refl
     next-is (Host o k v) = rw (update-is m (g .fits) (g .long) (t .hosts) o k v)
@@ -78,8 +80,8 @@ module _ (t : Tables) (d : Good (t .defaults)) where
     next-is End = refl
     next-is Bad = refl
 
-    next-good : (k : Command) → Good (nextOf t m k)
-    unfolding nextOf writeOf hostOf
+    next-good : (k : Command) → Good (leaves t (meantBy k) m)
+    unfolding meantBy next writeOf hostOf
     next-good (Write o l v) = two-refusals (badOffset o) (badLanes l) _ _ _ m (made (writtenBit (under (t .guests)) (held m) o l v)) g (chosen-good (λ (i j : ℕ). both (enabled o l i) (under (t .guests) i j)) (byteFor o v) byte)
     next-good (Read o l) = g
     next-good (Host o k v) = two-refusals (ltb 255 o) (outside (under (t .hosts)) o k) _ _ _ m (made (updatedBit (held m) o k v)) g (chosen-good (λ (i j : ℕ). both (eqb i o) (eqb (bit k j) 1)) (λ (i : ℕ). v) byte)
@@ -87,8 +89,8 @@ module _ (t : Tables) (d : Good (t .defaults)) where
     next-good End = g
     next-good Bad = g
 
-    reset-good : Good (functionResetOf (t .resets) (t .defaults) m)
-    unfolding functionResetOf
+    reset-good : Good (next t function-reset m)
+    unfolding next functionResetOf
     reset-good = chosen-good (under (t .resets)) (λ (i : ℕ). getD (t .defaults) i 0) byte
 
     -- ---- a line: `Z`, or a command
@@ -97,14 +99,15 @@ module _ (t : Tables) (d : Good (t .defaults)) where
     line-say l = rw (say-is (commandOf l))
 
     line-next : (l : List ℕ) → lineBox (boxed-with t m) l ≡ boxed-with t (lineNext t m l)
+    unfolding next
     line-next l = go (isZ l)
       where
-        go : (z : Bool) → pick z (boxed-with t (returnedOf (t .resets) (t .defaults) m)) (boxNext (boxed-with t m) (commandOf l)) ≡ boxed-with t (pick z (functionResetOf (t .resets) (t .defaults) m) (nextOf t m (commandOf l)))
+        go : (z : Bool) → pick z (boxed-with t (returnedOf (t .resets) (t .defaults) m)) (boxNext (boxed-with t m) (commandOf l)) ≡ boxed-with t (leaves t (pick z (event function-reset) (meantBy (commandOf l))) m)
         go true = ap (boxed-with t) (reset-is (t .resets) (t .defaults) m (g .long))
         go false = next-is (commandOf l)
 
     line-good : (l : List ℕ) → Good (lineNext t m l)
-    line-good l = pick-has Good (isZ l) (functionResetOf (t .resets) (t .defaults) m) (nextOf t m (commandOf l)) reset-good (next-good (commandOf l))
+    line-good l = pick-has (λ (x : Meant). Good (leaves t x m)) (isZ l) (event function-reset) (meantBy (commandOf l)) reset-good (next-good (commandOf l))
 
   -- ---- lines
 
@@ -112,6 +115,11 @@ module _ (t : Tables) (d : Good (t .defaults)) where
   unfolding answers
   answers-are [] m g = refl
   answers-are (l ∷ ls) m g = rw (line-say m g l, line-next m g l, answers-are ls (lineNext t m l) (line-good m g l))
+
+  bytes-are : (ls : List (List ℕ)) (m : List ℕ) → Good m → after lineBox lineText (boxed-with t m) ls .bytes ≡ after (lineNext t) (lineSay t) m ls
+  unfolding after
+  bytes-are [] m g = refl
+  bytes-are (l ∷ ls) m g = ap (λ (b : Box). after lineBox lineText b ls .bytes) (line-next m g l) ∙ bytes-are ls (lineNext t m l) (line-good m g l)
 
 -- ---- the first 16 bytes of a line say all: `Z` is one byte, and a longer line is not `Z`
 
@@ -141,3 +149,10 @@ pub sheet-player-is : (t : Tables) → Good (t .defaults) → (xs : List (List �
 sheet-player-is t d xs =
     in-blocks lineBox lineText 16 (omega arith) next-alike say-alike xs (boxed t)
     ∙ answers-are t d (allLines (joins xs)) (t .defaults) d
+
+-- and the bytes that it then holds are what the run of the events of the input's lines leaves
+pub sheet-player-leaves : (t : Tables) → Good (t .defaults) → (xs : List (List ℕ)) → blocksState lineBox lineText 16 (boxed t) [] xs .bytes ≡ run t (eventsOf (allLines (joins xs)))
+sheet-player-leaves t d xs =
+    ap (λ (b : Box). b .bytes) (after-blocks lineBox lineText 16 (omega arith) next-alike say-alike xs (boxed t))
+    ∙ bytes-are t d (allLines (joins xs)) (t .defaults) d
+    ∙ session-runs t (allLines (joins xs))

@@ -1,2 +1,3 @@
 pub mod Player
+pub mod Events
 pub mod Box

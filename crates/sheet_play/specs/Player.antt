@@ -1,5 +1,5 @@
--- A session on a sheet's device: the player's lines ('The session player') but for the end signal's `E`, and `Z` for the function reset, which there is a host call.
-use mathlib.Core.List.{List}
+-- A session on a sheet's device: the player's lines ('The session player') but for the end signal's `E`, and `Z` for the function reset, which there is a host call. What a line does is what the device's events do.
+use mathlib.Core.List.{List, [], _∷_}
 use mathlib.Core.Bool.{Bool}
 use Prim.Native.Nat.{ℕ}
 use lib.ListN.{length}
@@ -13,24 +13,54 @@ use Rattle.texts.specs.Text.{okText, noText}
 use Rattle.play.specs.Player.{replyText, valueTextOf}
 use Rattle.session.specs.Session.{allLines, answers}
 use Rattle.device.specs.declared.Tables.{Tables}
-use Rattle.device.specs.Device.{readOf, writeOf, hostOf, functionResetOf}
+use Rattle.device.specs.Device.{readOf, writeOf, hostOf}
+use Rattle.device.specs.ReadOnly.{Event, read, write, host-update, function-reset, platform-reset, next}
+
+-- ---- the event that a line is
+
+-- one of the device's events, or none
+pub data Meant : Type 0 where
+  nothing : Meant
+  event : Event → Meant
+
+-- a sheet's device has no end signal, and a line of no form does nothing
+unfoldable pub meantBy : Command → Meant
+meantBy (Write o l v) = event (write o l v)
+meantBy (Read o l) = event (read o l)
+meantBy (Host o k v) = event (host-update o k v)
+meantBy Reset = event platform-reset
+meantBy End = nothing
+meantBy Bad = nothing
 
 -- the line is `Z`
 unfoldable pub isZ : List ℕ → Bool
 isZ l = length l is 1 and at l 0 is letter "Z"
 
--- t are the device's tables, m the bytes that it holds
-module _ (t : Tables) where
-  -- what a command does
-  unfoldable pub nextOf : List ℕ → Command → List ℕ
-  nextOf m (Write o l v) = writeOf (t .guests) m o l v .bytes
-  nextOf m (Read o l) = m
-  nextOf m (Host o k v) = hostOf (t .hosts) m o k v .bytes
-  nextOf m Reset = t .defaults
-  nextOf m End = m
-  nextOf m Bad = m
+abbrev pub lineMeans : List ℕ → Meant
+lineMeans l = if isZ l then event function-reset else meantBy (commandOf l)
 
-  -- what it says
+-- and the events of lines, in turn
+infixr 15 _before_
+abbrev pub _before_ : Meant → List Event → List Event
+nothing before es = es
+(event e) before es = e ∷ es
+
+unfoldable pub eventsOf : List (List ℕ) → List Event
+eventsOf [] = []
+eventsOf (l ∷ ls) = lineMeans l before eventsOf ls
+
+-- ---- t are the device's tables, m the bytes that it holds
+
+module _ (t : Tables) where
+  -- the bytes that it leaves
+  abbrev pub leaves : Meant → List ℕ → List ℕ
+  leaves nothing m = m
+  leaves (event e) m = next t e m
+
+  abbrev pub lineNext : List ℕ → List ℕ → List ℕ
+  lineNext m l = leaves (lineMeans l) m
+
+  -- what a command says
   unfoldable pub sayOf : List ℕ → Command → List ℕ
   sayOf m (Write o l v) = replyText (writeOf (t .guests) m o l v .reply)
   sayOf m (Read o l) = valueTextOf (readOf m o l)
@@ -38,9 +68,6 @@ module _ (t : Tables) where
   sayOf m Reset = okText
   sayOf m End = noText LINE
   sayOf m Bad = noText LINE
-
-  abbrev pub lineNext : List ℕ → List ℕ → List ℕ
-  lineNext m l = if isZ l then functionResetOf (t .resets) (t .defaults) m else nextOf m (commandOf l)
 
   abbrev pub lineSay : List ℕ → List ℕ → List ℕ
   lineSay m l = if isZ l then okText else sayOf m (commandOf l)

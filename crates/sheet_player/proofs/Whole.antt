@@ -1,4 +1,4 @@
--- What the sheet's player says of a whole session, in whatever blocks it comes: the answers that the rules give, line by line, on the device of the sheet.
+-- What the sheet's player says of a whole session, in whatever blocks it comes: the answers that the rules give, line by line, on the device of the sheet. And what it then holds: demand 3's read-only clause.
 use mathlib.Core.Path.{_≡_, refl}
 use mathlib.Core.List.{List, []}
 use mathlib.Core.Bool.{Bool, true, false}
@@ -8,14 +8,19 @@ use lib.ListN.{length, getD}
 use Rattle.bits.specs.Choice.{pick}
 use Rattle.bits.specs.Places.{bytes}
 use Rattle.bits.proofs.Places.{length-bytes, at-each}
-use Rattle.session.specs.Session.{joins, blocksText}
+use Rattle.device.specs.ReadOnly.{Read-only-after}
+use Rattle.device.proofs.ReadOnly as D
+use Rattle.session.specs.Session.{allLines, joins, blocksText, blocksState}
 use Rattle.sheet.specs.Sheet.{entries, DEFAULT}
 use Rattle.sheet_rules.specs.Check.{accepts, checkOf}
 use Rattle.sheet_rules.specs.Tables.{cellIn, tableOf, tables, tablesOf}
 use Rattle.sheet_rules.proofs.Cells.{cell-fits}
+use Rattle.sheet_rules.proofs.Demand3.{inside}
 use Rattle.sheet_play.specs.Box.{lineBox, lineText}
-use Rattle.sheet_play.specs.Player.{sheetPlayerOf}
-use Rattle.sheet_play.proofs.Bridge.{Good, boxed, sheet-player-is}
+use Rattle.sheet_play.specs.Player.{eventsOf, sheetPlayerOf}
+use Rattle.sheet_play.proofs.Bridge.{Good, boxed, sheet-player-is, sheet-player-leaves}
+use Rattle.sheet_play.proofs.Events as E
+use Rattle.sheet_player.specs.Demand3.{Read-only}
 
 -- bytes by place
 of-places : (f : ℕ → ℕ) → ((i : ℕ) → f i < 2 ^ 8) → Good (bytes f)
@@ -32,3 +37,11 @@ defaults-good s b = go (accepts (checkOf s))
 
 pub session-is : (s : List ℕ) → ((i : ℕ) → getD s i 0 < 2 ^ 8) → (xs : List (List ℕ)) → blocksText lineBox lineText 16 (boxed (tablesOf s)) [] xs ≡ sheetPlayerOf (tablesOf s) (joins xs)
 session-is s b xs = sheet-player-is (tablesOf s) (defaults-good s b) xs
+
+-- after any session on a sheet's device, by the rules
+pub session-read-only : Read-only
+session-read-only s = E.session-read-only (tablesOf s) (inside s)
+
+-- and of the bytes that the machine holds
+pub session-holds : (s : List ℕ) → ((i : ℕ) → getD s i 0 < 2 ^ 8) → (xs : List (List ℕ)) → Read-only-after (tablesOf s) (eventsOf (allLines (joins xs))) (blocksState lineBox lineText 16 (boxed (tablesOf s)) [] xs .bytes)
+session-holds s b xs i j h k fixed = rw (sheet-player-leaves (tablesOf s) (defaults-good s b) xs) (D.read-only (tablesOf s) (inside s) (eventsOf (allLines (joins xs))) i j h k fixed)
