@@ -3,6 +3,9 @@ use libc::STDERR_FILENO;
 use sheet_rules::SheetAnswer;
 ghost use Prim.Native.Nat.{_<_, _≤_};
 
+// The longest sheet: 4 * 64 + 1 bytes of contents, and 4 * 256 of bodies.
+pub const LONGEST: usize = 1281;
+
 pub fn say(text: &[u8]) {
     io::write_all(STDERR_FILENO, text);
 }
@@ -51,6 +54,19 @@ fn complain_whole(what: &[u8], n: u64, more: &[u8]) {
     say(more);
 }
 
+// A sheet of `n` bytes does not end with its last body. How long a file is that is longer than any sheet is not known: no more of it is read.
+fn complain_total(n: usize) {
+    if LONGEST < n {
+        say(b"the file is longer than the longest sheet, 1281 bytes\n");
+        return;
+    }
+    complain_whole(
+        b"the sheet has ",
+        n as u64,
+        b" bytes, and its last body does not end there\n",
+    );
+}
+
 // What is wrong with a sheet, in one line.
 pub fn complain(s: &[u8], a: SheetAnswer) {
     match a {
@@ -86,11 +102,7 @@ pub fn complain(s: &[u8], a: SheetAnswer) {
             entry_byte(s, k, 3) + entry_byte(s, k, 4) * 256,
             b", not where the contents or the body before it end\n",
         ),
-        SheetAnswer::Total => complain_whole(
-            b"the sheet has ",
-            s.len() as u64,
-            b" bytes, and its last body does not end there\n",
-        ),
+        SheetAnswer::Total => complain_total(s.len()),
         SheetAnswer::Shared(k) => complain_entry(s, k, b"its guest and host masks share a bit\n"),
         SheetAnswer::Outside(k) => complain_entry(
             s,

@@ -1,15 +1,14 @@
 // The sheet's file that a program's argument names: read, checked, and refused with a number for the session and a sentence for a person.
 use libc::STDOUT_FILENO;
+use sheet_rules::SheetAnswer;
 ghost use mathlib.Core.Path.{_≡_};
 ghost use Prim.Native.Nat.{_+_, _≤_};
-ghost use lib.ListN.{length};
+ghost use lib.ListN.{length, take};
+ghost use Rattle.sheet_rules.specs.Check.{accepts, checkOf};
 
 // ---- reading
 
-// The longest sheet: 4 * 64 + 1 bytes of contents, and 4 * 256 of bodies.
-const LONGEST: usize = 1281;
-
-// Room for a sheet of any length, and a byte more, by which a longer file is known.
+// Room for a sheet of any length, and a byte more, by which a longer file is known: `sheet_faults::LONGEST`, and one.
 fn room() -> [u8; 1282]
     ensures { λ r. ⌜ 1282 ≡ length r ⌝ }
 {
@@ -88,33 +87,36 @@ fn refuse(n: u32) {
 
 // ---- the sheet
 
-// The first `n` bytes are a sheet that is not refused, where `on` says so.
+// The first `n` bytes are a sheet that is not refused exactly where `on` says so.
 pub struct Held {
     pub bytes: [u8; 1282],
     pub n: usize,
     pub on: bool,
 }
 
-// Whether what was read is a sheet; where it is none, that is said.
-fn judge(s: &[u8]) -> bool {
-    if LONGEST < s.len() {
-        refuse(answer::SHEET_LENGTH);
-        sheet_faults::say(b"the file is longer than the longest sheet, 1281 bytes\n");
-        return false;
-    }
-    let a = sheets::check(s);
-    let number = sheets::number(a);
+// What is refused is said, by its number and in a sentence.
+fn tell(s: &[u8], a: SheetAnswer, number: u32) {
     if number != 0 {
         refuse(number);
         sheet_faults::complain(s, a);
-        return false;
     }
-    true
+}
+
+// Whether what was read is a sheet; where it is none, that is said. The first 1,282 bytes of a longer file have its first fault:
+// what is asked before the total length lies in the contents, at most 257 bytes, and no total that entries say is above 1,281.
+fn judge(s: &[u8]) -> bool
+    ensures { λ r. ⌜ r ≡ accepts (checkOf (now (s .entry))) ⌝ }
+{
+    let a = sheets::check(s);
+    let number = sheets::number(a);
+    tell(s, a, number);
+    number == 0
 }
 
 // Reads the file that the program's only argument names, at most a byte more than the longest sheet, and checks it.
 pub fn named() -> Held
     ensures { λ r. ⌜ (r .n ≤ length (r .bytes)) × (length (r .bytes) ≡ 1282) ⌝ }
+    ensures { λ r. ⌜ r .on ≡ accepts (checkOf (take (r .n) (r .bytes))) ⌝ }
 {
     let mut bytes = room();
     if os::arg_count() != 2 {

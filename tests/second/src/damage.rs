@@ -147,9 +147,12 @@ const LENGTHS: &[Kind] = &[
     ("longer than any sheet", |rng| {
         longer(rng, |rng, _| between(rng, LONGEST + 1, 5_000))
     }),
+    ("longer by a multiple of 65536", |rng| {
+        longer(rng, |_, size| size + 0x1_0000)
+    }),
     ("1281 zeros", |_| count_fault(vec![0; LONGEST])),
-    ("1282 zeros", |_| length_fault(vec![0; LONGEST + 1])),
-    ("2000 zeros", |_| length_fault(vec![0; 2_000])),
+    ("1282 zeros", |_| count_fault(vec![0; LONGEST + 1])),
+    ("2000 zeros", |_| count_fault(vec![0; 2_000])),
 ];
 
 const MASKS: &[Kind] = &[
@@ -189,15 +192,45 @@ const MASKS: &[Kind] = &[
 ];
 
 const TWO_FAULTS: &[Kind] = &[
-    ("no entry, and too long", |rng| {
-        let mut bytes = with_count(rng, 0).bytes;
-        bytes.resize(between(rng, LONGEST + 1, 3_000), 1);
-        length_fault(bytes)
+    ("no entry, and longer than any sheet", |rng| {
+        too_long(rng, |rng| with_count(rng, 0))
     }),
-    ("a bad entry, and too long", |rng| {
-        let mut bytes = length_poked(rng).bytes;
-        bytes.resize(between(rng, LONGEST + 1, 3_000), 0);
-        length_fault(bytes)
+    ("65 entries, and longer than any sheet", |rng| {
+        too_long(rng, |rng| too_many(rng, 65))
+    }),
+    (
+        "more entries than may be, and longer than any sheet",
+        |rng| {
+            too_long(rng, |rng| {
+                let count = between(rng, MOST_ENTRIES + 1, 255);
+                with_count(rng, count)
+            })
+        },
+    ),
+    ("a bad length, and longer than any sheet", |rng| {
+        too_long(rng, length_poked)
+    }),
+    ("an overlap, and longer than any sheet", |rng| {
+        too_long(rng, |rng| overlap(rng, 1))
+    }),
+    ("byte 255 passed, and longer than any sheet", |rng| {
+        too_long(rng, |rng| past_the_end(rng, 1))
+    }),
+    ("a bad body start, and longer than any sheet", |rng| {
+        too_long(rng, |rng| start_moved(rng, 1))
+    }),
+    (
+        "the longest sheet, its last entry bad, and one byte",
+        |rng| {
+            let mut bytes = lay_out(&made(rng, Shape::Longest).registers);
+            spoil_entry(rng, &mut bytes, MOST_ENTRIES - 1);
+            bytes.push(rng.byte());
+            entry_fault(bytes, MOST_ENTRIES - 1)
+        },
+    ),
+    ("bad masks, and longer than any sheet", |rng| {
+        let long = too_long(rng, |rng| bad_mask(rng, share, anywhere, anywhere));
+        length_fault(long.bytes)
     }),
     ("too many entries, contents cut", |rng| {
         let mut bytes = too_many(rng, 65).bytes;
@@ -537,6 +570,14 @@ fn longer(rng: &mut Rng, length: fn(&mut Rng, usize) -> usize) -> Damaged {
     let length = length(rng, bytes.len());
     bytes.resize_with(length, || rng.byte());
     length_fault(bytes)
+}
+
+/// Damage that is found before the total length, in a file longer than any sheet.
+fn too_long(rng: &mut Rng, damage: impl Fn(&mut Rng) -> Damaged) -> Damaged {
+    let mut damaged = damage(rng);
+    let length = between(rng, LONGEST + 1, 3_000);
+    damaged.bytes.resize_with(length, || rng.byte());
+    damaged
 }
 
 // ---- masks

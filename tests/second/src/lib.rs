@@ -19,7 +19,9 @@
 //! - `sessions SEED LINES [player|console]`: makes session text;
 //! - `trace`: turns a recorded port trace into console lines;
 //! - `compare`: runs another program on the same input and compares;
-//! - `compare-sheets`: the same for two programs that take register sheets.
+//! - `compare-sheets`: the same for two programs that take register sheets;
+//! - `sentences`: holds what those two say on standard error to README's words;
+//! - `one-by-one`: gives a program lines that it has to read one by one.
 
 #![forbid(unsafe_code)]
 
@@ -28,6 +30,7 @@ pub mod child;
 pub mod comparison;
 pub mod damage;
 pub mod difference;
+pub mod folder;
 pub mod line;
 pub mod made_sheet;
 pub mod malform;

@@ -58,7 +58,9 @@ fn with_sheet(file: &str, go_on: impl FnOnce(&Sheet) -> io::Result<()>) -> io::R
     }
 }
 
-/// The bytes of a file, but none that can't matter: it may have no end.
+/// The bytes of a file, but none that can't matter: it may have no end. All
+/// faults before that of the total length are in the contents, and no sheet's
+/// total length is as much as is taken.
 fn bytes(file: &str) -> io::Result<Vec<u8>> {
     let mut bytes = Vec::new();
     File::open(file)

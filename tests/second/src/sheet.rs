@@ -117,8 +117,6 @@ pub enum BodyFault {
 /// Why bytes are no sheet. Entries are counted from 1.
 #[derive(Clone, Copy, Debug, PartialEq, Eq)]
 pub enum Fault {
-    /// More bytes than any sheet has.
-    TooLong,
     /// No bytes.
     Empty,
     /// A number of entries that isn't 1 to 64.
@@ -137,9 +135,7 @@ impl Fault {
     /// The paper's refusal.
     pub fn refusal(self) -> Refusal {
         match self {
-            Fault::TooLong | Fault::Empty | Fault::ContentsCut | Fault::Total => {
-                Refusal::SheetLength
-            }
+            Fault::Empty | Fault::ContentsCut | Fault::Total => Refusal::SheetLength,
             Fault::Count(_) | Fault::Entry(..) => Refusal::SheetContents,
             Fault::Body(..) => Refusal::SheetBody,
         }
@@ -157,7 +153,6 @@ impl Fault {
 impl fmt::Display for Fault {
     fn fmt(&self, f: &mut fmt::Formatter<'_>) -> fmt::Result {
         match self {
-            Fault::TooLong => write!(f, "the sheet has more than {LONGEST} bytes"),
             Fault::Empty => write!(f, "the sheet is empty"),
             Fault::Count(count) => write!(f, "the sheet's number of entries is {count}"),
             Fault::ContentsCut => write!(f, "the sheet ends within its contents"),
@@ -205,11 +200,9 @@ impl Listed {
     }
 }
 
-/// The sheet of these bytes, or the first fault in the paper's order.
+/// The sheet of these bytes, or the first fault in the paper's order, which is
+/// the same one for bytes of any number.
 pub fn read(bytes: &[u8]) -> Result<Sheet, Fault> {
-    if bytes.len() > LONGEST {
-        return Err(Fault::TooLong);
-    }
     let (count, rest) = bytes.split_first().ok_or(Fault::Empty)?;
     let entries = usize::from(*count);
     if entries == 0 || entries > MOST_ENTRIES {

@@ -1,7 +1,11 @@
 //! The programs themselves, run as children.
 
+use std::fs;
 use std::io::{BufRead, BufReader, Read, Write};
+use std::os::unix::fs::PermissionsExt;
+use std::path::PathBuf;
 use std::process::{Child, Command, Output, Stdio};
+use std::sync::Mutex;
 use std::thread;
 
 use second::line::Mode::{Console, Player};
@@ -13,10 +17,18 @@ const SECOND: &str = env!("CARGO_BIN_EXE_second");
 const SESSIONS: &str = env!("CARGO_BIN_EXE_sessions");
 const TRACE: &str = env!("CARGO_BIN_EXE_trace");
 const COMPARE: &str = env!("CARGO_BIN_EXE_compare");
+const ONE_BY_ONE: &str = env!("CARGO_BIN_EXE_one-by-one");
+const SENTENCES: &str = env!("CARGO_BIN_EXE_sentences");
+const UART: &str = concat!(env!("CARGO_MANIFEST_DIR"), "/../../examples/uart.sheet");
 const RECORDED: &str = concat!(env!("CARGO_MANIFEST_DIR"), "/../data/seabios-linux.console");
+
+/// Held while a script is written or a child starts: a child that starts
+/// meanwhile holds the script open for a moment, and it can't be run then.
+static STARTING: Mutex<()> = Mutex::new(());
 
 /// Starts a program with all ends piped.
 fn start(program: &str, arguments: &[&str]) -> Child {
+    let _starting = STARTING.lock().unwrap();
     Command::new(program)
         .args(arguments)
         .stdin(Stdio::piped())
@@ -209,5 +221,111 @@ fn compare_refuses_wrong_calls() {
             Some(2),
             "{arguments:?}"
         );
+    }
+}
+
+/// A program in the shell's language.
+fn script(name: &str, text: &str) -> String {
+    let _starting = STARTING.lock().unwrap();
+    let path = PathBuf::from(env!("CARGO_TARGET_TMPDIR")).join(name);
+    fs::write(&path, format!("#!/bin/sh\n{text}\n")).unwrap();
+    fs::set_permissions(&path, fs::Permissions::from_mode(0o755)).unwrap();
+    path.to_str().unwrap().to_string()
+}
+
+/// How `one-by-one` ends on 500 lines, and what it says.
+fn one_by_one(arguments: &[&str]) -> (Option<i32>, String) {
+    let arguments = [&["--lines", "500"], arguments].concat();
+    let output = run(ONE_BY_ONE, &arguments, b"");
+    (
+        output.status.code(),
+        String::from_utf8(output.stdout).unwrap(),
+    )
+}
+
+#[test]
+fn one_by_one_agrees_with_second() {
+    let console = script("one-console", &format!("exec {SECOND} console"));
+    let sheet = script("one-sheet", &format!("exec {SECOND} sheet \"$1\""));
+    for arguments in [
+        &["player", SECOND][..],
+        &["console", &console],
+        &["sheet", &sheet, UART],
+    ] {
+        let said = (Some(0), "500 lines agreed, one by one\n".to_string());
+        assert_eq!(one_by_one(arguments), said);
+    }
+}
+
+#[test]
+fn one_by_one_finds_a_program_that_stops() {
+    // So many reads, each handed on before the next.
+    let reads = |count: u32| format!("dd bs=65536 count={count} status=none");
+    for (count, found) in [(499, true), (600, false)] {
+        let reads = reads(count);
+        let player = script("few-player", &format!("{reads} | {SECOND}"));
+        let (code, said) = one_by_one(&["player", &player]);
+        assert_eq!(code, Some(i32::from(found)), "{said}");
+        assert_eq!(said.contains("line 500:"), found, "{said}");
+        let sheet = script("few-sheet", &format!("{reads} | {SECOND} sheet \"$1\""));
+        let (code, said) = one_by_one(&["sheet", &sheet, UART]);
+        assert_eq!(code, Some(i32::from(found)), "{said}");
+    }
+    let deaf = script("deaf-snapshot", &format!("{} >/dev/null", reads(100)));
+    let (code, said) = one_by_one(&["snapshot", &deaf]);
+    assert_eq!(code, Some(1), "{said}");
+    assert!(said.contains("takes no more"), "{said}");
+}
+
+#[test]
+fn one_by_one_shows_a_difference() {
+    // A snapshot of the fresh twin, whatever it is given.
+    let fresh = concat!(env!("CARGO_MANIFEST_DIR"), "/../data/fresh.lspci");
+    let fresh = script(
+        "fresh-snapshot",
+        &format!("dd bs=65536 status=none >/dev/null; cat {fresh}"),
+    );
+    for arguments in [
+        &["console", SECOND][..],
+        &["player", "/bin/cat"],
+        &["player", "/bin/true"],
+        &["snapshot", "/bin/true"],
+        &["snapshot", &fresh],
+        &["sheet", "/bin/cat", UART],
+    ] {
+        let (code, said) = one_by_one(arguments);
+        assert_eq!(code, Some(1), "{arguments:?}: {said}");
+        assert!(said.contains("DIFFERENCE"), "{said}");
+    }
+}
+
+#[test]
+fn one_by_one_refuses_wrong_calls() {
+    for arguments in [
+        &[][..],
+        &["player"],
+        &["sheet", SECOND],
+        &["snapshot", SECOND, UART],
+        &["other", SECOND],
+        &["player", "/nowhere/at/all"],
+        &["sheet", SECOND, RECORDED],
+        &["sheet", SECOND, "/nowhere/at/all"],
+    ] {
+        assert_eq!(one_by_one(arguments).0, Some(2), "{arguments:?}");
+    }
+}
+
+#[test]
+fn sentences_shows_a_difference() {
+    let sheet = script("sentence-sheet", &format!("exec {SECOND} sheet \"$1\""));
+    for arguments in [[&sheet, "/bin/true"], ["/bin/cat", &sheet]] {
+        let output = run(SENTENCES, &arguments, b"");
+        let said = String::from_utf8(output.stdout).unwrap();
+        assert_eq!(output.status.code(), Some(1), "{said}");
+        assert!(said.contains("DIFFERENCE"), "{said}");
+    }
+    for arguments in [&[][..], &[SECOND], &["/nowhere/at/all", SECOND]] {
+        let output = run(SENTENCES, arguments, b"");
+        assert_eq!(output.status.code(), Some(2), "{arguments:?}");
     }
 }

@@ -279,8 +279,7 @@ fn masks(bytes: &[u8], bad: fn([usize; 3]) -> bool) -> Option<u32> {
 }
 
 /// The tests in the paper's order.
-const TESTS: [Test; 13] = [
-    ("too long", |bytes| (bytes.len() > 1281).then_some(12)),
+const TESTS: [Test; 12] = [
     ("empty", |bytes| bytes.is_empty().then_some(12)),
     ("no entry", |bytes| (byte(bytes, 0) == 0).then_some(13)),
     ("too many entries", |bytes| {
@@ -335,8 +334,6 @@ fn each_test_left_out_is_found() {
 fn tests_in_another_order_are_found() {
     let place = |name| TESTS.iter().position(|test| test.0 == name).unwrap();
     for (name, before) in [
-        ("no entry", "too long"),
-        ("length 0", "too long"),
         ("contents", "too many entries"),
         ("length 0", "contents"),
         ("order", "contents"),
@@ -355,9 +352,29 @@ fn tests_in_another_order_are_found() {
 }
 
 #[test]
+fn long_files_out_of_order_are_found() {
+    let before = ["empty", "no entry", "too many entries", "contents"];
+    let entries = ["length 0", "length above 8", "order", "end", "start"];
+    for name in before.iter().chain(&entries) {
+        let mut tests = TESTS.to_vec();
+        let place = tests.iter().position(|test| test.0 == *name).unwrap();
+        tests.insert(place, ("long", |bytes| (bytes.len() > 1281).then_some(12)));
+        assert!(finds_tests(&tests), "long before {name}");
+    }
+    // Behind the entries it is the total length's test.
+    let mut tests = TESTS.to_vec();
+    let place = tests.iter().position(|test| test.0 == "total").unwrap();
+    tests.insert(place, ("long", |bytes| (bytes.len() > 1281).then_some(12)));
+    assert!(!finds_tests(&tests));
+}
+
+#[test]
 fn tests_off_by_one_are_found() {
     let others: [Test; 8] = [
-        ("too long", |bytes| (bytes.len() > 1280).then_some(12)),
+        ("total", |bytes| {
+            let due = entry(bytes, byte(bytes, 0)).due;
+            (bytes.len() % 0x1_0000 != due).then_some(12)
+        }),
         ("too many entries", |bytes| {
             (byte(bytes, 0) > 63).then_some(13)
         }),
@@ -564,7 +581,7 @@ fn second_says_nothing_of_a_sheet_it_cannot_read() {
         assert!(output.stdout.is_empty() && !output.stderr.is_empty());
     }
     for task in ["sheet", "show"] {
-        assert_eq!(run(SECOND, &[task, "/dev/zero"], b"P\n").stdout, b"NO 12\n");
+        assert_eq!(run(SECOND, &[task, "/dev/zero"], b"P\n").stdout, b"NO 13\n");
         assert_eq!(run(SECOND, &[task, "/dev/null"], b"P\n").stdout, b"NO 12\n");
     }
 }

@@ -193,11 +193,17 @@ fn the_order_of_refusals() {
     let shorter = |bytes: Vec<u8>, length: usize| bytes[..length].to_vec();
     let bad_masks = with(THREE, &[(15, 0xFF)]);
     let bad_entry = with(THREE, &[(6, 9)]);
+    let long = |bytes: Vec<u8>| [bytes, vec![0; 70_000]].concat();
     for (bytes, number, entry) in [
-        // Too long for any sheet before all else.
+        // Files longer than any sheet are asked in the same order.
         (vec![0; 1281], 13, None),
-        (vec![0; 1282], 12, None),
-        (vec![255; 2000], 12, None),
+        (vec![0; 1282], 13, None),
+        (vec![255; 2000], 13, None),
+        (long(with(THREE, &[(0, 65)])), 13, None),
+        (long(bad_entry.clone()), 13, Some(2)),
+        (long(with(THREE, &[(12, 1)])), 13, Some(3)),
+        (long(THREE.to_vec()), 12, None),
+        (long(bad_masks.clone()), 12, None),
         // The number of entries before contents cut short.
         (vec![65, 0, 0], 13, None),
         // Contents cut short before entries.

@@ -2,6 +2,7 @@
 use mathlib.Core.Path.{sym}
 use native.Mathlib.Omega.{arith}
 use lib.Seq.{length-take-le}
+use Rattle.sheet_rules.specs.Check.{accepts, checkOf}
 use borrow.Author.Needs.{needs}
 use Rattle.sheet_file.proofs.named.Statement.{statement}
 use Rattle.sheet_file.proofs.named.Tie as tie
@@ -19,6 +20,7 @@ say-requires : tie.Need-say-requires
 say-requires c κs = search needs
 
 returns : tie.Need-returns
+unfolding accepts checkOf
 returns c = search needs
 
 buffer-requires : tie.Need-buffer-requires
@@ -40,6 +42,7 @@ fail-requires : tie.Need-fail-requires
 fail-requires c κs = search needs
 
 returns-2 : tie.Need-returns-2
+unfolding accepts checkOf
 returns-2 c = search needs
 
 array-share-prefix-path : tie.Need-array-share-prefix-path
@@ -55,6 +58,7 @@ read-file-requires : tie.Need-read-file-requires
 read-file-requires c κs = search needs
 
 returns-3 : tie.Need-returns-3
+unfolding accepts checkOf
 returns-3 c = search needs
 
 array-share-prefix-bytes : tie.Need-array-share-prefix-bytes

@@ -13,14 +13,14 @@
 #![forbid(unsafe_code)]
 
 use std::fs;
-use std::io;
 use std::ops::Range;
-use std::path::{Path, PathBuf};
+use std::path::Path;
 use std::process::{Command, ExitCode, Stdio};
 use std::thread;
 
 use second::child;
 use second::comparison::{end, seeds, Trouble};
+use second::folder::Folder;
 use second::sheet_comparison::{cases, check, Case, Said, Tally};
 
 const USAGE: &str = "usage: compare-sheets [--seeds A..B] [--lines N] PLAYER SHOW";
@@ -60,28 +60,6 @@ impl Arguments {
     }
 }
 
-/// A folder of our own for the sheet's file, which goes when we end.
-struct Folder(PathBuf);
-
-impl Folder {
-    fn new() -> io::Result<Folder> {
-        let folder = std::env::temp_dir().join(format!("compare-sheets-{}", std::process::id()));
-        fs::create_dir(&folder)?;
-        Ok(Folder(folder))
-    }
-
-    fn sheet(&self) -> PathBuf {
-        self.0.join("made.sheet")
-    }
-}
-
-impl Drop for Folder {
-    fn drop(&mut self) {
-        // A folder that stays behind is no reason to fail.
-        let _ = fs::remove_dir_all(&self.0);
-    }
-}
-
 /// What a program says of a sheet's file.
 fn said(program: &str, file: &Path, input: &[u8], piece: usize) -> Result<Said, Trouble> {
     let mut command = Command::new(program);
@@ -110,10 +88,11 @@ fn check_case(arguments: &Arguments, case: &Case, file: &Path) -> Result<(), Tro
 
 /// Compares the cases of each seed.
 fn check_all(arguments: &Arguments, tally: &mut Tally) -> Result<(), Trouble> {
-    let folder = Folder::new()?;
+    let folder = Folder::new("compare-sheets")?;
+    let file = folder.file("made.sheet");
     for seed in arguments.seeds.clone() {
         for case in cases(seed, arguments.lines) {
-            check_case(arguments, &case, &folder.sheet())?;
+            check_case(arguments, &case, &file)?;
             tally.add(&case);
         }
     }
