@@ -25,7 +25,7 @@ extern "C" {
 
 // ---- the record
 
-// The write-once fields SVID2, SID2 and SWSCI bit 15: 0 open, any other number closed.
+// The write-once fields SVID2, SID2 and SWSCI bit 15: 0 open, any other number closed. A write closes an open field with 1; a field that is closed keeps its number, and so does busy.
 typedef struct twin_closed {
     uint8_t svid2;
     uint8_t sid2;

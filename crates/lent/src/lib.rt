@@ -33,7 +33,7 @@ pub extern "C" fn twin_write(s: &mut State, offset: u32, lanes: u32, value: u32)
 // The same above the by-value step: the record is copied in, and its state out.
 #[no_mangle]
 pub extern "C" fn twin_write_by_value(s: &mut State, offset: u32, lanes: u32, value: u32) -> u32
-    ensures { λ r. ⌜ leaves (no r) (now (s .exit)) ≡ writeOf (now (s .entry)) offset lanes value ⌝ }
+    ensures { λ number. ⌜ leaves (no number) (now (s .exit)) ≡ writeOf (now (s .entry)) offset lanes value ⌝ }
 {
     let w = deeds::write(*s, offset, lanes, value);
     *s = w.state;

@@ -125,7 +125,11 @@ module _ (s : State) where
 -- ---- what is seen
 
 pub raised-up : (b : Bool) (x : ℕ) → up (raised b x) ≡ either b (up x)
-raised-up true x = refl
+raised-up true x = go (eqb x 0) refl
+  where
+    go : (z : Bool) → eqb x 0 ≡ z → up (pick z 1 x) ≡ true
+    go true e = refl
+    go false e = rw e
 raised-up false x = refl
 
 seen-performed : (g : GuestWrite) (s : State) → seenOf (performed g s) ≡ record { latch = s .latch; busy = either (starting g) (busy s) }

@@ -36,8 +36,9 @@ starts o l v = enabled o l AFCTL and bit (byteFor o v AFCTL) 0 is 1
 
 -- ---- the flags
 
+-- a flag that is up keeps its number
 abbrev pub raised : Bool → ℕ → ℕ
-raised b was = if b then 1 else was
+raised b was = if b and was is 0 then 1 else was
 
 -- the first write that enables any byte of a field closes the whole field; a write that starts the function reset makes the state busy
 unfoldable pub flagsAfter : ℕ → ℕ → ℕ → Flags → Flags

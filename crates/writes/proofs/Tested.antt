@@ -119,7 +119,7 @@ starts-is o l v a = go (eqb o AFCTL) refl
 
 -- ---- a flag
 
-raise-pick : (a b : Bool) (was : ℕ) → pick a (pick b was 1) was ≡ raised (both a (not b)) was
+raise-pick : (a b : Bool) (was : ℕ) → pick a (pick b was (pick (eqb was 0) 1 was)) was ≡ raised (both a (not b)) was
 raise-pick true true was = refl
 raise-pick true false was = refl
 raise-pick false b was = refl

@@ -45,7 +45,7 @@ stepBytes guest c m o l v = clearIf (enabled o l MSAC) (storedBytes guest c m o 
 
 -- a flag after a write at o, where one at `at` raises it unless hit is 0
 unfoldable pub raisedOf : ℕ → ℕ → ℕ → ℕ → ℕ
-raisedOf was o at hit = if o is at then (if hit is 0 then was else 1) else was
+raisedOf was o at hit = if o is at then (if hit is 0 then was else if was is 0 then 1 else was) else was
 
 -- ---- the entry
 

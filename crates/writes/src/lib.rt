@@ -52,7 +52,7 @@ fn step(m: &mut [u8; 256], guest: &[u8; 256], c: Flags, o: usize, lanes: u32, va
 
 // ---- the flags
 
-// A flag that a write to the dword at `at` raises, after a write to the dword at `o`, unless `hit` is 0.
+// A flag that a write to the dword at `at` raises, after a write to the dword at `o`, unless `hit` is 0. One that is up keeps its number.
 fn raise(was: u8, o: usize, at: usize, hit: u32) -> u8
     ensures { λ r. ⌜ r ≡ raisedOf was o at hit ⌝ }
 {
@@ -60,7 +60,9 @@ fn raise(was: u8, o: usize, at: usize, hit: u32) -> u8
         if hit == 0 {
             return was;
         }
-        return 1;
+        if was == 0 {
+            return 1;
+        }
     }
     was
 }

@@ -70,7 +70,8 @@ impl SizeCode {
 }
 
 /// Which write-once fields are closed: 0 open, any other number closed. A
-/// write that touches a field leaves 1; another number is of foreign making.
+/// write that closes an open field leaves 1; another number is of foreign
+/// making, and stays.
 #[derive(Clone, Copy, Debug, Default, PartialEq, Eq)]
 struct Closed {
     svid2: u8,
@@ -88,6 +89,9 @@ impl Closed {
     }
 
     fn close(&mut self, field: Field) {
+        if self.holds(field) {
+            return;
+        }
         match field {
             Field::Svid2 => self.svid2 = 1,
             Field::Sid2 => self.sid2 = 1,

@@ -16,5 +16,9 @@ returns-3 : tie.Need-returns-3
 unfolding raisedOf
 returns-3 c = search tests
 
+returns-4 : tie.Need-returns-4
+unfolding raisedOf
+returns-4 c = search tests
+
 pub raise-spec : {M : Type 1} → statement M
-raise-spec = tie.close (tie.spec returns returns-2 returns-3)
+raise-spec = tie.close (tie.spec returns returns-2 returns-3 returns-4)
