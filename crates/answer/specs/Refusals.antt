@@ -1,4 +1,18 @@
 -- The paper's table 'Refusal numbers', those of the change requests, and what an entry gives back beside a number.
+-- Which definition decides each:
+--    1 LENGTH           walkOf (walk, Walk)
+--    2 WIDTH            badWidth (rules, Ports)
+--    3 NOT-OURS         notOurs (rules, Ports)
+--    4 OTHER-FUNCTION   otherFunction (rules, Ports)
+--    5 OFFSET           badOffset (rules, Access); of a host update 255 <? o (rules, Host)
+--    6 LANES            badLanes (rules, Access)
+--    7 NOT-HOST         notHost (rules, Host); in the window beyond (rules, Window); of a sheet's device outside (rules, Plain)
+--    8 NO-RANGE         probeOf, ranged (probe, Probe)
+--    9 LINE             commandOf (forms, Line), callOf (call_forms, Call); of the door doorOf (deeds, Door)
+--   10 POINTER          stops (walk, Walk)
+--   11 ENDLESS          walkFrom (walk, Walk)
+--   12 SHEET-LENGTH, 13 SHEET-CONTENTS, 14 SHEET-BODY    checkOf, sheetNo (sheet_rules, Check)
+--   16 WINDOW-OFFSET    badWindow (rules, Window)
 use Prim.Native.Nat.{ℕ}
 
 abbrev pub LENGTH : ℕ

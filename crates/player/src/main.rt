@@ -3,9 +3,13 @@ use libc::STDOUT_FILENO;
 use rules::Flags;
 ghost use mathlib.Core.Path.{_≡_};
 ghost use Prim.Native.Nat.{_≤_};
-ghost use lib.ListN.{length};
+ghost use lib.ListN.{length, take};
+ghost use Rattle.play.specs.Box.{box};
+ghost use Rattle.player.specs.Turn.{Turned};
 
-struct After {
+// The answers are the first `filled` bytes of the buffer for them; `on` says that more may come.
+struct Heard {
+    filled: usize,
     kept: usize,
     flags: Flags,
     on: bool,
@@ -20,15 +24,28 @@ fn last(
     buf: &[u8],
     k: usize,
     out: &mut [u8],
-)
-    requires { ⌜ (k ≤ length (now buf)) × (12 ≤ length (now out)) ⌝ }
+) -> Heard
+    requires { ⌜ (k ≤ length (now buf)) × (length (now out) ≡ 98496) ⌝ }
+    ensures { λ r. ⌜ (r .kept ≤ 16) × (r .filled ≤ 98496) × (length (now (out .exit)) ≡ 98496) ⌝ }
+    ensures { λ r. ⌜ Turned (r .on) (box (now (guest .entry)) (now (host .entry)) (now (m .entry)) c) (take k (now (buf .entry))) (box (now (guest .entry)) (now (host .entry)) (now (m .exit)) (r .flags)) (take (r .filled) (now (out .exit))) (take (r .kept) (now (buf .entry))) ⌝ }
 {
     if k == 0 {
-        return;
+        return Heard {
+            filled: 0,
+            kept: 0,
+            flags: c,
+            on: false,
+        };
     }
-    let r = play::line(guest, host, m, c, &buf[..k], out, 0);
-    let n = r.filled;
-    io::write_all(STDOUT_FILENO, &out[..n]);
+    let l = play::line(guest, host, m, c, &buf[..k], out, 0);
+    let filled = l.filled;
+    let flags = l.flags;
+    Heard {
+        filled,
+        kept: 0,
+        flags,
+        on: false,
+    }
 }
 
 // Reads once, answers each line that is complete, and keeps the unfinished one.
@@ -40,29 +57,25 @@ fn turn(
     buf: &mut [u8],
     k: usize,
     out: &mut [u8],
-) -> After
+) -> Heard
     requires { ⌜ (k ≤ 16) × (length (now buf) ≡ 8208) × (length (now out) ≡ 98496) ⌝ }
-    ensures { λ r. ⌜ (r .kept ≤ 16) × (length (now (buf .exit)) ≡ 8208) × (length (now (out .exit)) ≡ 98496) ⌝ }
+    ensures { λ r. ⌜ (r .kept ≤ 16) × (r .filled ≤ 98496) × (length (now (buf .exit)) ≡ 8208) × (length (now (out .exit)) ≡ 98496) ⌝ }
+    ensures { λ r. ⌜ Turned (r .on) (box (now (guest .entry)) (now (host .entry)) (now (m .entry)) c) (take k (now (buf .entry))) (box (now (guest .entry)) (now (host .entry)) (now (m .exit)) (r .flags)) (take (r .filled) (now (out .exit))) (take (r .kept) (now (buf .exit))) ⌝ }
 {
     let n = input::fill(buf, k);
     if n == 0 {
-        last(guest, host, m, c, buf, k, out);
-        return After {
-            kept: 0,
-            flags: c,
-            on: false,
-        };
+        return last(guest, host, m, c, buf, k, out);
     }
     let end = k + n;
     let r = play::play(guest, host, m, c, &buf[..end], out);
-    let filled = r.filled;
-    let is_written = io::write_all(STDOUT_FILENO, &out[..filled]);
     let kept = play::keep(buf, r.at, end);
-    let g = r.flags;
-    After {
+    let filled = r.filled;
+    let flags = r.flags;
+    Heard {
+        filled,
         kept,
-        flags: g,
-        on: is_written,
+        flags,
+        on: true,
     }
 }
 
@@ -90,12 +103,17 @@ fn main() {
     let mut k: usize = 0;
     let mut turns = u64::MAX;
     while turns > 0 {
-        let t = turn(&guest, &host, &mut m, c, &mut buf, k, &mut out);
-        if !t.on {
+        let h = turn(&guest, &host, &mut m, c, &mut buf, k, &mut out);
+        let n = h.filled;
+        let is_written = io::write_all(STDOUT_FILENO, &out[..n]);
+        if !is_written {
             return;
         }
-        k = t.kept;
-        c = t.flags;
+        if !h.on {
+            return;
+        }
+        k = h.kept;
+        c = h.flags;
         turns -= 1;
     }
 }

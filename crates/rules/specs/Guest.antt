@@ -66,6 +66,7 @@ bitsTaken code = if code is 3 then 2 else if code is 1 then 1 else 0
 abbrev pub exponentOf : ℕ → ℕ
 exponentOf code = leastExponent + bitsTaken code
 
+-- a class that is no bit of the aperture has apertureBit 0, below the least exponent, so that no code takes it
 unfoldable pub takenBy : ℕ → Class → Bool
 takenBy code c = leastExponent ≤? apertureBit c and apertureBit c <? exponentOf code
 

@@ -8,11 +8,13 @@ use Rattle.map.specs.Map.{classOf, defaultAt}
 use Rattle.rules.specs.declared.State.{State}
 use Rattle.rules.specs.declared.Flags.{Flags}
 use Rattle.rules.specs.Access.{holding, byte, busy}
-use Rattle.rules.specs.Plain.{returnedBit}
 
--- bit j of byte i, was x: F bits return to default, and the bit that starts the reset reads 0
+-- bit j of byte i, was x: F bits return to default, the bit that starts the reset is 0, every other bit stays
 unfoldable pub reset : ℕ → ℕ → ℕ → ℕ
-reset i j x = returnedBit (λ (i j : ℕ). hasF (classOf i j)) defaultAt (λ (i j : ℕ). if sameClass (classOf i j) resetStart then 0 else x) i j
+reset i j x =
+    if hasF (classOf i j) then bit (defaultAt i) j
+    else if sameClass (classOf i j) resetStart then 0
+    else x
 
 unfoldable pub endedBit : State → ℕ → ℕ → ℕ
 endedBit s i j = reset i j (bit (byte s i) j)

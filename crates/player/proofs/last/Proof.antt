@@ -1,13 +1,16 @@
--- The last line is safe to play and to write.
-use mathlib.Core.Path.{sym}
+-- The last line is answered where there is one.
+use mathlib.Core.Path.{refl, sym, _∙_}
 use native.Mathlib.Omega.{arith}
+use lib.ListN.{take}
 use lib.Seq.{length-take-le}
+use Rattle.session.proofs.Turns.{last-line}
+use Rattle.play.specs.Box.{box, lineBox, lineText}
 use borrow.Author.Needs.{needs}
 use Rattle.player.proofs.last.Statement.{statement}
 use Rattle.player.proofs.last.Tie as tie
 
 returns : tie.Need-returns
-returns c = search needs
+returns c = (search needs, rw (c .if1 .taken) (refl, refl))
 
 slice-aggregate-line : tie.Need-slice-aggregate-line
 slice-aggregate-line c = sym (length-take-le _ _ (omega arith))
@@ -15,30 +18,15 @@ slice-aggregate-line c = sym (length-take-le _ _ (omega arith))
 line-requires : tie.Need-line-requires
 line-requires c κs = search needs
 
-slice-reshare-prefix-write-all : tie.Need-slice-reshare-prefix-write-all
-slice-reshare-prefix-write-all c = search needs
-
-slice-aggregate-write-all : tie.Need-slice-aggregate-write-all
-slice-aggregate-write-all c = sym (length-take-le _ _ (omega arith))
-
-write-all-requires : tie.Need-write-all-requires
-write-all-requires c κs = search needs
-
 same-length : tie.Need-same-length
 same-length c = search needs
 
 returns-2 : tie.Need-returns-2
-returns-2 c = search needs
+returns-2 c =
+    let r = c .before .before .before .line in
+    let a = c .before .before .before .before .before .before .before .before .before .before .args in
+    let l = last-line lineBox lineText 16 (box (a .guest .now) (a .host .now) (a .m .now) (a .c)) (take (a .k) (a .buf .now)) (omega (arith, length-take-le (a .k) (a .buf .now) (omega arith))) in
+    (search needs, (l .0 ∙ sym (r .ensures .0), l .1 ∙ sym (r .ensures .1 .0)))
 
 pub last-spec : {M : Type 1} → statement M
-last-spec =
-    tie.close
-    (tie.spec
-    returns
-    slice-aggregate-line
-    line-requires
-    slice-reshare-prefix-write-all
-    slice-aggregate-write-all
-    write-all-requires
-    same-length
-    returns-2)
+last-spec = tie.close (tie.spec returns slice-aggregate-line line-requires same-length returns-2)

@@ -1,8 +1,11 @@
--- One read and its lines, within the buffers.
+-- One read and its lines: a turn.
 use mathlib.Core.Path.{sym}
+use Prim.Native.Nat.{_+_, _≤_}
 use native.Mathlib.Omega.{arith}
-use Prim.Native.Nat.{_+_}
+use lib.ListN.{take}
 use lib.Seq.{length-take-le}
+use Rattle.session.proofs.Turns.{one-turn}
+use Rattle.play.specs.Box.{box, lineBox, lineText}
 use borrow.Author.Needs.{needs}
 use Rattle.player.proofs.turn.Statement.{statement}
 use Rattle.player.proofs.turn.Tie as tie
@@ -20,7 +23,9 @@ same-length-2 : tie.Need-same-length-2
 same-length-2 c = search needs
 
 returns : tie.Need-returns
-returns c = search needs
+returns c =
+    let f = c .before .before .before .before .before .before .before .before .before .fill in
+    (search needs, rw (f .ensures .2) at (c .before .before .last .ensures .1))
 
 add-end : tie.Need-add-end
 add-end c = search needs
@@ -32,19 +37,14 @@ slice-aggregate-play : tie.Need-slice-aggregate-play
 slice-aggregate-play c = sym (length-take-le _ _ (omega arith))
 
 play-requires : tie.Need-play-requires
-play-requires c κs = let f = c .before .before .before .before .before .before .fill in omega (arith, length-take-le (c .before .before .before .before .before .before .before .before .before .before .args .k + f .result) (f .last .0) (omega arith))
-
-slice-reshare-prefix-write-all : tie.Need-slice-reshare-prefix-write-all
-slice-reshare-prefix-write-all c = search needs
-
-slice-aggregate-write-all : tie.Need-slice-aggregate-write-all
-slice-aggregate-write-all c = sym (length-take-le _ _ (omega arith))
-
-write-all-requires : tie.Need-write-all-requires
-write-all-requires c κs = search needs
+play-requires c κs =
+    let f = c .before .before .before .before .before .before .fill in
+    omega (arith, length-take-le (c .before .before .before .before .before .before .before .before .before .before .args .k + f .result) (f .last .0) (omega arith))
 
 keep-requires : tie.Need-keep-requires
-keep-requires c κs = let f = c .before .before .before .before .before .before .before .before .before .before .before .before .fill in (omega (arith, c .before .before .before .before .before .play .ensures .1 .0 .0, length-take-le (c .before .before .before .before .before .before .before .before .before .before .before .before .before .before .before .before .args .k + f .result) (f .last .0) (omega arith)), omega arith)
+keep-requires c κs =
+    let f = c .before .before .before .before .before .before .before .before .before .before .fill in
+    (omega (arith, c .before .before .before .play .ensures .1 .0 .0, length-take-le (c .before .before .before .before .before .before .before .before .before .before .before .before .before .before .args .k + f .result) (f .last .0) (omega arith)), omega arith)
 
 same-length-3 : tie.Need-same-length-3
 same-length-3 c = search needs
@@ -53,7 +53,16 @@ same-length-4 : tie.Need-same-length-4
 same-length-4 c = search needs
 
 returns-2 : tie.Need-returns-2
-returns-2 c = search needs
+returns-2 c =
+    let k = c .before .before .before .keep in
+    let t = c .before .before .before .before .before .before .before .play in
+    let f = c .before .before .before .before .before .before .before .before .before .before .before .before .before .before .fill in
+    let a = c .before .before .before .before .before .before .before .before .before .before .before .before .before .before .before .before .before .before .args in
+    let p = c .before .before .before .before .before .before .before .before .before .before .before .before .before .before .before .before .before .before .pre in
+    let inside : t .result .at ≤ a .k + f .result = omega (arith, t .ensures .1 .0 .0, length-take-le (a .k + f .result) (f .last .0) (omega arith)) in (
+      (k .ensures .0, omega (arith, t .ensures .1 .0 .1, t .ensures .1 .1, p .2), omega (arith, k .ensures .1, f .ensures .1, p .1), omega (arith, t .ensures .1 .1, p .2)),
+      one-turn lineBox lineText 16 (box (a .guest .now) (a .host .now) (a .m .now) (a .c)) (box (a .guest .now) (a .host .now) (t .last .1 .1 .0) (t .result .flags)) (a .buf .now) (f .last .0) (k .last .0) (take (t .result .filled) (t .last .1 .1 .1 .1 .1 .0)) (a .k) (f .result) (t .result .at) (k .result) (f .ensures .2) (f .ensures .0) (t .ensures .0) inside (k .ensures .2) (k .ensures .3),
+    )
 
 pub turn-spec : {M : Type 1} → statement M
 turn-spec =
@@ -68,9 +77,6 @@ turn-spec =
     slice-reshare-prefix-play
     slice-aggregate-play
     play-requires
-    slice-reshare-prefix-write-all
-    slice-aggregate-write-all
-    write-all-requires
     keep-requires
     same-length-3
     same-length-4

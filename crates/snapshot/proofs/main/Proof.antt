@@ -12,20 +12,14 @@ in-buffer-requires c κs = search needs
 out-buffer-requires : tie.Need-out-buffer-requires
 out-buffer-requires c κs = search needs
 
-slice-aggregate-listen : tie.Need-slice-aggregate-listen
-slice-aggregate-listen c = search needs
+slice-aggregate-snap : tie.Need-slice-aggregate-snap
+slice-aggregate-snap c = search needs
 
-slice-aggregate-listen-2 : tie.Need-slice-aggregate-listen-2
-slice-aggregate-listen-2 c = search needs
+slice-aggregate-snap-2 : tie.Need-slice-aggregate-snap-2
+slice-aggregate-snap-2 c = search needs
 
-listen-requires : tie.Need-listen-requires
-listen-requires c κs = search needs
-
-slice-aggregate-show : tie.Need-slice-aggregate-show
-slice-aggregate-show c = search needs
-
-show-requires : tie.Need-show-requires
-show-requires c κs = search needs
+snap-requires : tie.Need-snap-requires
+snap-requires c κs = search needs
 
 array-share-prefix-out : tie.Need-array-share-prefix-out
 array-share-prefix-out c = search needs
@@ -45,11 +39,9 @@ main-spec =
     (tie.spec
     in-buffer-requires
     out-buffer-requires
-    slice-aggregate-listen
-    slice-aggregate-listen-2
-    listen-requires
-    slice-aggregate-show
-    show-requires
+    slice-aggregate-snap
+    slice-aggregate-snap-2
+    snap-requires
     array-share-prefix-out
     slice-aggregate-write-all
     write-all-requires
