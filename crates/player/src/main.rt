@@ -5,7 +5,7 @@ ghost use mathlib.Core.Path.{_≡_};
 ghost use Prim.Native.Nat.{_≤_};
 ghost use lib.ListN.{length, take};
 ghost use Rattle.play.specs.Box.{box};
-ghost use Rattle.player.specs.Turn.{Turned};
+ghost use Rattle.player.specs.Turn.{Turned, Led};
 
 // The answers are the first `filled` bytes of the buffer for them; `on` says that more may come.
 struct Heard {
@@ -93,27 +93,44 @@ fn out_buffer() -> [u8; 98496]
     [0; 98496]
 }
 
+// The session, from bytes and flags on: the flags after it.
+fn session(
+    guest: &[u8; 256],
+    host: &[u8; 256],
+    m: &mut [u8; 256],
+    c: Flags,
+    buf: &mut [u8],
+    out: &mut [u8],
+) -> Flags
+    requires { ⌜ (length (now buf) ≡ 8208) × (length (now out) ≡ 98496) ⌝ }
+    ensures { λ r. ⌜ Led (box (now (guest .entry)) (now (host .entry)) (now (m .entry)) c) (box (now (guest .entry)) (now (host .entry)) (now (m .exit)) r) ⌝ }
+{
+    let mut f = c;
+    let mut k: usize = 0;
+    let mut turns = u64::MAX;
+    while turns > 0 {
+        let h = turn(guest, host, m, f, buf, k, out);
+        f = h.flags;
+        let n = h.filled;
+        let is_written = io::write_all(STDOUT_FILENO, &out[..n]);
+        if !is_written {
+            return f;
+        }
+        if !h.on {
+            return f;
+        }
+        k = h.kept;
+        turns -= 1;
+    }
+    f
+}
+
 fn main() {
     let guest = map::all_guests();
     let host = map::all_hosts();
     let mut m = map::all_defaults();
     let mut buf = in_buffer();
     let mut out = out_buffer();
-    let mut c = resets::fresh_flags();
-    let mut k: usize = 0;
-    let mut turns = u64::MAX;
-    while turns > 0 {
-        let h = turn(&guest, &host, &mut m, c, &mut buf, k, &mut out);
-        let n = h.filled;
-        let is_written = io::write_all(STDOUT_FILENO, &out[..n]);
-        if !is_written {
-            return;
-        }
-        if !h.on {
-            return;
-        }
-        k = h.kept;
-        c = h.flags;
-        turns -= 1;
-    }
+    let c = resets::fresh_flags();
+    session(&guest, &host, &mut m, c, &mut buf, &mut out);
 }

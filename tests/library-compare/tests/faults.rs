@@ -528,12 +528,13 @@ fn a_foreign_flag_made_1_by_any_write() {
 }
 
 #[test]
-fn a_flag_that_a_write_leaves_foreign() {
+fn a_closed_flag_that_a_write_makes_one() {
     found_by_both(&|lent, call| {
-        let before = *lent.byte(261);
+        let closed = *lent.byte(261) != 0;
         let answer = right(lent, call);
-        if written(call, answer).is_some() && before != 0 {
-            *lent.byte(261) = before;
+        match written(call, answer) {
+            Some((0x2C, lanes, _)) if closed && lanes & 0xC != 0 => *lent.byte(261) = 1,
+            _ => {}
         }
         answer
     });
