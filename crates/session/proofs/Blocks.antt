@@ -66,6 +66,27 @@ module _ {S : Type 0} (next : S → List ℕ → S) (say : S → List ℕ → Li
         | no ne ↦ rw (ne-eqb x 10 ne) (lines-played xs s (l ++ (x ∷ [])))
       ]
 
+  -- lines behind lines
+  pub in-turn : (ks ls : List (List ℕ)) (s : S) → after next say s (ks ++ ls) ≡ after next say (after next say s ks) ls
+  unfolding after
+  in-turn [] ls s = refl
+  in-turn (k ∷ ks) ls s = in-turn ks ls (next s k)
+
+  -- the complete lines of a text, and the last line
+  pub complete-lines : (xs : List ℕ) (s : S) (l : List ℕ) → after next say s (linesOf l xs) ≡ play s l xs .state
+  unfolding linesOf after playText
+  complete-lines [] s l = refl
+  complete-lines (x ∷ xs) s l =
+      elim (ℕ-discrete x 10) [
+        | yes e ↦ rw (eq-eqb x 10 e) (complete-lines xs (next s l) [])
+        | no ne ↦ rw (ne-eqb x 10 ne) (complete-lines xs s (l ++ (x ∷ [])))
+      ]
+
+  pub last-played : (s : S) (k : List ℕ) → after next say s (lastOf k) ≡ lastState next say s k
+  unfolding after
+  last-played s [] = refl
+  last-played s (x ∷ k) = refl
+
   -- an unfinished line may stand before the next block, as it does in the buffer
   carried : (l ys : List ℕ) (s : S) → Clean l → play s [] (l ++ ys) ≡ play s l ys
   carried l ys s h = in-two next say l ys s [] ∙ rw (no-line next say l s [] h)
