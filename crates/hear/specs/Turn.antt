@@ -1,4 +1,4 @@
--- One turn of a program that hears console lines: the console is the machine, and 27 bytes of an unfinished line are kept.
+-- Turns of a program that hears console lines: the console is the machine, and 27 bytes of an unfinished line are kept.
 use mathlib.Core.Bool.{Bool}
 use mathlib.Core.List.{List}
 use Prim.Native.Nat.{ℕ}
@@ -6,5 +6,8 @@ use Rattle.rules.specs.declared.State.{State}
 use Rattle.session.specs.Turn as T
 use Rattle.replies.specs.Console.{lineNext, lineSay}
 
-abbrev pub Turned : Bool → State → List ℕ → State → List ℕ → List ℕ → Type 0
-Turned on s k after text kept = T.Turned lineNext lineSay 27 on s k after text kept
+abbrev pub Turned : Bool → Bool → State → List ℕ → State → List ℕ → List ℕ → Type 0
+Turned on over s k after text kept = T.Turned lineNext lineSay 27 on over s k after text kept
+
+abbrev pub Led : Bool → State → State → Type 0
+Led over s after = T.Led lineNext lineSay 27 over s after

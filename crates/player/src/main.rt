@@ -1,5 +1,4 @@
 // The session player: standard input in blocks, the answers of each block in one write.
-use libc::STDOUT_FILENO;
 use rules::Flags;
 ghost use mathlib.Core.Path.{_≡_};
 ghost use Prim.Native.Nat.{_≤_};
@@ -7,12 +6,13 @@ ghost use lib.ListN.{length, take};
 ghost use Rattle.play.specs.Box.{box};
 ghost use Rattle.player.specs.Turn.{Turned, Led};
 
-// The answers are the first `filled` bytes of the buffer for them; `on` says that more may come.
+// The answers are the first `filled` bytes of the buffer for them; `on` says that more may come, `over` that the input has ended; neither, that the read failed.
 struct Heard {
     filled: usize,
     kept: usize,
     flags: Flags,
     on: bool,
+    over: bool,
 }
 
 // The last line may lack its LF.
@@ -27,7 +27,7 @@ fn last(
 ) -> Heard
     requires { ⌜ (k ≤ length (now buf)) × (length (now out) ≡ 98496) ⌝ }
     ensures { λ r. ⌜ (r .kept ≤ 16) × (r .filled ≤ 98496) × (length (now (out .exit)) ≡ 98496) ⌝ }
-    ensures { λ r. ⌜ Turned (r .on) (box (now (guest .entry)) (now (host .entry)) (now (m .entry)) c) (take k (now (buf .entry))) (box (now (guest .entry)) (now (host .entry)) (now (m .exit)) (r .flags)) (take (r .filled) (now (out .exit))) (take (r .kept) (now (buf .entry))) ⌝ }
+    ensures { λ r. ⌜ Turned (r .on) (r .over) (box (now (guest .entry)) (now (host .entry)) (now (m .entry)) c) (take k (now (buf .entry))) (box (now (guest .entry)) (now (host .entry)) (now (m .exit)) (r .flags)) (take (r .filled) (now (out .exit))) (take (r .kept) (now (buf .entry))) ⌝ }
 {
     if k == 0 {
         return Heard {
@@ -35,6 +35,7 @@ fn last(
             kept: 0,
             flags: c,
             on: false,
+            over: true,
         };
     }
     let l = play::line(guest, host, m, c, &buf[..k], out, 0);
@@ -45,10 +46,11 @@ fn last(
         kept: 0,
         flags,
         on: false,
+        over: true,
     }
 }
 
-// Reads once, answers each line that is complete, and keeps the unfinished one.
+// Reads once, answers each line that is complete, and keeps the unfinished one. Where the read fails nothing is carried out.
 fn turn(
     guest: &[u8; 256],
     host: &[u8; 256],
@@ -60,9 +62,19 @@ fn turn(
 ) -> Heard
     requires { ⌜ (k ≤ 16) × (length (now buf) ≡ 8208) × (length (now out) ≡ 98496) ⌝ }
     ensures { λ r. ⌜ (r .kept ≤ 16) × (r .filled ≤ 98496) × (length (now (buf .exit)) ≡ 8208) × (length (now (out .exit)) ≡ 98496) ⌝ }
-    ensures { λ r. ⌜ Turned (r .on) (box (now (guest .entry)) (now (host .entry)) (now (m .entry)) c) (take k (now (buf .entry))) (box (now (guest .entry)) (now (host .entry)) (now (m .exit)) (r .flags)) (take (r .filled) (now (out .exit))) (take (r .kept) (now (buf .exit))) ⌝ }
+    ensures { λ r. ⌜ Turned (r .on) (r .over) (box (now (guest .entry)) (now (host .entry)) (now (m .entry)) c) (take k (now (buf .entry))) (box (now (guest .entry)) (now (host .entry)) (now (m .exit)) (r .flags)) (take (r .filled) (now (out .exit))) (take (r .kept) (now (buf .exit))) ⌝ }
 {
-    let n = input::fill(buf, k);
+    let got = streams::fill(buf, k);
+    if got.failed {
+        return Heard {
+            filled: 0,
+            kept: 0,
+            flags: c,
+            on: false,
+            over: false,
+        };
+    }
+    let n = got.n;
     if n == 0 {
         return last(guest, host, m, c, buf, k, out);
     }
@@ -76,6 +88,7 @@ fn turn(
         kept,
         flags,
         on: true,
+        over: false,
     }
 }
 
@@ -93,7 +106,13 @@ fn out_buffer() -> [u8; 98496]
     [0; 98496]
 }
 
-// The session, from bytes and flags on: the flags after it.
+// The flags, and whether the input has ended.
+struct Played {
+    flags: Flags,
+    over: bool,
+}
+
+// The session, from bytes and flags on, until the input ends or something fails.
 fn session(
     guest: &[u8; 256],
     host: &[u8; 256],
@@ -101,28 +120,31 @@ fn session(
     c: Flags,
     buf: &mut [u8],
     out: &mut [u8],
-) -> Flags
+) -> Played
     requires { ⌜ (length (now buf) ≡ 8208) × (length (now out) ≡ 98496) ⌝ }
-    ensures { λ r. ⌜ Led (box (now (guest .entry)) (now (host .entry)) (now (m .entry)) c) (box (now (guest .entry)) (now (host .entry)) (now (m .exit)) r) ⌝ }
+    ensures { λ r. ⌜ Led (r .over) (box (now (guest .entry)) (now (host .entry)) (now (m .entry)) c) (box (now (guest .entry)) (now (host .entry)) (now (m .exit)) (r .flags)) ⌝ }
 {
-    let mut f = c;
+    let mut flags = c;
     let mut k: usize = 0;
-    let mut turns = u64::MAX;
+    let mut turns = streams::endless();
     while turns > 0 {
-        let h = turn(guest, host, m, f, buf, k, out);
-        f = h.flags;
+        let h = turn(guest, host, m, flags, buf, k, out);
+        flags = h.flags;
         let n = h.filled;
-        let is_written = io::write_all(STDOUT_FILENO, &out[..n]);
-        if !is_written {
-            return f;
-        }
+        let is_taken = streams::put(&out[..n]);
         if !h.on {
-            return f;
+            return Played {
+                flags,
+                over: h.over,
+            };
+        }
+        if !is_taken {
+            return Played { flags, over: false };
         }
         k = h.kept;
         turns -= 1;
     }
-    f
+    Played { flags, over: false }
 }
 
 fn main() {

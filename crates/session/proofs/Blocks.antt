@@ -8,6 +8,7 @@ use borrow.Author.Tests.{eq-eqb, ne-eqb}
 use lib.ListN.{length, take}
 use lib.Seq.{take-take}
 use Rattle.session.specs.Session.{runOf, linesOf, restOf, lastOf, allLines, joins, Played, follow, answers, playText, lastText, blocksText, after, lastState, blocksState}
+use Rattle.session.specs.Turn.{heard}
 use Rattle.session.proofs.Text.{no-line, in-two}
 
 -- ---- lists
@@ -162,3 +163,14 @@ module _ {S : Type 0} (next : S → List ℕ → S) (say : S → List ℕ → Li
     -- and the state is the one after them
     pub after-blocks : (xs : List (List ℕ)) (s : S) → blocksState next say most s [] xs ≡ after next say s (allLines (joins xs))
     after-blocks xs s = whole xs s [] [] refl (omega arith) .0 ∙ sym (lines-played (joins xs) s [])
+
+    -- and while more may come, the one after the lines that are complete
+    complete : (xs : List (List ℕ)) (s : S) (l k : List ℕ) → take most l ≡ take most k → Clean k → heard next say most s k xs .state ≡ play s l (joins xs) .state
+    unfolding heard playText
+    complete [] s l k e h = refl
+    complete (x ∷ xs) s l k e h =
+        let b = next-block x s l k e h in
+        rw (in-two next say x (joins xs) s l, b .0 .0) (complete xs (play s [] (k ++ x) .state) (play s l x .rest) (take most (play s [] (k ++ x) .rest)) (b .1) (b .2))
+
+    pub heard-lines : (xs : List (List ℕ)) (s : S) → heard next say most s [] xs .state ≡ after next say s (linesOf [] (joins xs))
+    heard-lines xs s = complete xs s [] [] refl (omega arith) ∙ sym (complete-lines (joins xs) s [])

@@ -1,6 +1,6 @@
 // The sheet's file that a program's argument names: read, checked, and refused with a number for the session and a sentence for a person.
-use libc::STDOUT_FILENO;
 use sheet_rules::SheetAnswer;
+use streams::Moved;
 ghost use mathlib.Core.Path.{_≡_};
 ghost use Prim.Native.Nat.{_+_, _≤_};
 ghost use lib.ListN.{length, take};
@@ -15,61 +15,39 @@ fn room() -> [u8; 1282]
     [0; 1282]
 }
 
-// What came of a read: `n` bytes, or a failure.
-struct Got {
-    n: usize,
-    is_read: bool,
-}
-
-// Reads once, behind the k bytes that are there.
-fn read_more(fd: i32, buf: &mut [u8], k: usize) -> Got
-    requires { ⌜ k ≤ length (now buf) ⌝ }
-    ensures { λ r. ⌜ (k + r .n ≤ length (now (buf .exit))) × (length (now (buf .exit)) ≡ length (now (buf .entry))) ⌝ }
-{
-    let got = libc::read(fd, &mut buf[k..]);
-    let n = io::count(got, &buf[k..]);
-    Got {
-        n,
-        is_read: got >= 0,
-    }
-}
-
 // Reads until the buffer is full or the file ends.
-fn read_all(fd: i32, buf: &mut [u8]) -> Got
+fn read_all(fd: i32, buf: &mut [u8]) -> Moved
     ensures { λ r. ⌜ (r .n ≤ length (now (buf .exit))) × (length (now (buf .exit)) ≡ length (now (buf .entry))) ⌝ }
 {
     let mut k: usize = 0;
     while k < buf.len() {
-        let more = read_more(fd, buf, k);
+        let more = streams::read(fd, buf, k);
         let n = more.n;
         if n == 0 {
-            return Got {
+            return Moved {
                 n: k,
-                is_read: more.is_read,
+                failed: more.failed,
             };
         }
         k += n;
     }
-    Got {
+    Moved {
         n: k,
-        is_read: true,
+        failed: false,
     }
 }
 
 // Opens the file and reads it. What fails is told on standard error.
-fn read_file(path: &[u8], buf: &mut [u8]) -> Got
+fn read_file(path: &[u8], buf: &mut [u8]) -> Moved
     ensures { λ r. ⌜ (r .n ≤ length (now (buf .exit))) × (length (now (buf .exit)) ≡ length (now (buf .entry))) ⌝ }
 {
     let fd = os::open_read(path);
     if fd < 0 {
         os::fail(path);
-        return Got {
-            n: 0,
-            is_read: false,
-        };
+        return Moved { n: 0, failed: true };
     }
     let got = read_all(fd, buf);
-    if !got.is_read {
+    if got.failed {
         os::fail(path);
     }
     libc::close(fd);
@@ -80,9 +58,10 @@ fn read_file(path: &[u8], buf: &mut [u8]) -> Got
 
 // `NO n`, with a sheet's number.
 fn refuse(n: u32) {
-    io::write_all(STDOUT_FILENO, b"NO ");
-    io::print_decimal(STDOUT_FILENO, n as u64);
-    io::write_all(STDOUT_FILENO, b"\n");
+    let tens = (n / 10 % 10) as u8 + b'0';
+    let ones = (n % 10) as u8 + b'0';
+    let text = [b'N', b'O', b' ', tens, ones, b'\n'];
+    streams::put(&text);
 }
 
 // ---- the sheet
@@ -139,7 +118,7 @@ pub fn named() -> Held
     }
     let got = read_file(&path[..length], &mut bytes);
     let n = got.n;
-    if !got.is_read {
+    if got.failed {
         return Held {
             bytes,
             n: 0,

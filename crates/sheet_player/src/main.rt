@@ -1,17 +1,17 @@
 // A session on the device of a register sheet: the sheet's file name is the argument, standard input is the session.
 use device::Tables;
-use libc::STDOUT_FILENO;
 ghost use mathlib.Core.Path.{_≡_};
 ghost use Prim.Native.Nat.{_≤_};
 ghost use lib.ListN.{length, take};
 ghost use Rattle.sheet_play.specs.Box.{box};
-ghost use Rattle.sheet_player.specs.Turn.{Turned};
+ghost use Rattle.sheet_player.specs.Turn.{Turned, Led};
 
-// The answers are the first `filled` bytes of the buffer for them; `on` says that more may come.
+// The answers are the first `filled` bytes of the buffer for them; `on` says that more may come, `over` that the input has ended; neither, that the read failed.
 struct Heard {
     filled: usize,
     kept: usize,
     on: bool,
+    over: bool,
 }
 
 // The last line may lack its LF.
@@ -27,13 +27,14 @@ fn last(
 ) -> Heard
     requires { ⌜ (k ≤ length (now buf)) × (length (now out) ≡ 98496) ⌝ }
     ensures { λ r. ⌜ (r .kept ≤ 16) × (r .filled ≤ 98496) × (length (now (out .exit)) ≡ 98496) ⌝ }
-    ensures { λ r. ⌜ Turned (r .on) (box (now (defaults .entry)) (now (guests .entry)) (now (hosts .entry)) (now (resets .entry)) (now (m .entry))) (take k (now (buf .entry))) (box (now (defaults .entry)) (now (guests .entry)) (now (hosts .entry)) (now (resets .entry)) (now (m .exit))) (take (r .filled) (now (out .exit))) (take (r .kept) (now (buf .entry))) ⌝ }
+    ensures { λ r. ⌜ Turned (r .on) (r .over) (box (now (defaults .entry)) (now (guests .entry)) (now (hosts .entry)) (now (resets .entry)) (now (m .entry))) (take k (now (buf .entry))) (box (now (defaults .entry)) (now (guests .entry)) (now (hosts .entry)) (now (resets .entry)) (now (m .exit))) (take (r .filled) (now (out .exit))) (take (r .kept) (now (buf .entry))) ⌝ }
 {
     if k == 0 {
         return Heard {
             filled: 0,
             kept: 0,
             on: false,
+            over: true,
         };
     }
     let filled = sheet_play::line(defaults, guests, hosts, resets, m, &buf[..k], out, 0);
@@ -41,10 +42,11 @@ fn last(
         filled,
         kept: 0,
         on: false,
+        over: true,
     }
 }
 
-// Reads once, answers each line that is complete, and keeps the unfinished one.
+// Reads once, answers each line that is complete, and keeps the unfinished one. Where the read fails nothing is carried out.
 fn turn(
     defaults: &[u8; 256],
     guests: &[u8; 256],
@@ -57,9 +59,18 @@ fn turn(
 ) -> Heard
     requires { ⌜ (k ≤ 16) × (length (now buf) ≡ 8208) × (length (now out) ≡ 98496) ⌝ }
     ensures { λ r. ⌜ (r .kept ≤ 16) × (r .filled ≤ 98496) × (length (now (buf .exit)) ≡ 8208) × (length (now (out .exit)) ≡ 98496) ⌝ }
-    ensures { λ r. ⌜ Turned (r .on) (box (now (defaults .entry)) (now (guests .entry)) (now (hosts .entry)) (now (resets .entry)) (now (m .entry))) (take k (now (buf .entry))) (box (now (defaults .entry)) (now (guests .entry)) (now (hosts .entry)) (now (resets .entry)) (now (m .exit))) (take (r .filled) (now (out .exit))) (take (r .kept) (now (buf .exit))) ⌝ }
+    ensures { λ r. ⌜ Turned (r .on) (r .over) (box (now (defaults .entry)) (now (guests .entry)) (now (hosts .entry)) (now (resets .entry)) (now (m .entry))) (take k (now (buf .entry))) (box (now (defaults .entry)) (now (guests .entry)) (now (hosts .entry)) (now (resets .entry)) (now (m .exit))) (take (r .filled) (now (out .exit))) (take (r .kept) (now (buf .exit))) ⌝ }
 {
-    let n = input::fill(buf, k);
+    let got = streams::fill(buf, k);
+    if got.failed {
+        return Heard {
+            filled: 0,
+            kept: 0,
+            on: false,
+            over: false,
+        };
+    }
+    let n = got.n;
     if n == 0 {
         return last(defaults, guests, hosts, resets, m, buf, k, out);
     }
@@ -71,6 +82,7 @@ fn turn(
         filled,
         kept,
         on: true,
+        over: false,
     }
 }
 
@@ -88,8 +100,39 @@ fn out_buffer() -> [u8; 98496]
     [0; 98496]
 }
 
-// The session, from the defaults on.
-fn session(t: Tables) {
+// The session, from bytes on, until the input ends or something fails; whether it has ended.
+fn session(
+    defaults: &[u8; 256],
+    guests: &[u8; 256],
+    hosts: &[u8; 256],
+    resets: &[u8; 256],
+    m: &mut [u8; 256],
+    buf: &mut [u8],
+    out: &mut [u8],
+) -> bool
+    requires { ⌜ (length (now buf) ≡ 8208) × (length (now out) ≡ 98496) ⌝ }
+    ensures { λ r. ⌜ Led r (box (now (defaults .entry)) (now (guests .entry)) (now (hosts .entry)) (now (resets .entry)) (now (m .entry))) (box (now (defaults .entry)) (now (guests .entry)) (now (hosts .entry)) (now (resets .entry)) (now (m .exit))) ⌝ }
+{
+    let mut k: usize = 0;
+    let mut turns = streams::endless();
+    while turns > 0 {
+        let h = turn(defaults, guests, hosts, resets, m, buf, k, out);
+        let n = h.filled;
+        let is_taken = streams::put(&out[..n]);
+        if !h.on {
+            return h.over;
+        }
+        if !is_taken {
+            return false;
+        }
+        k = h.kept;
+        turns -= 1;
+    }
+    false
+}
+
+// A session on the device of these tables, from its defaults on.
+fn play_on(t: Tables) {
     let defaults = t.defaults;
     let guests = t.guests;
     let hosts = t.hosts;
@@ -97,30 +140,15 @@ fn session(t: Tables) {
     let mut m = defaults;
     let mut buf = in_buffer();
     let mut out = out_buffer();
-    let mut k: usize = 0;
-    let mut turns = u64::MAX;
-    while turns > 0 {
-        let h = turn(
-            &defaults,
-            &guests,
-            &hosts,
-            &resets,
-            &mut m,
-            &mut buf,
-            k,
-            &mut out,
-        );
-        let n = h.filled;
-        let is_written = io::write_all(STDOUT_FILENO, &out[..n]);
-        if !is_written {
-            return;
-        }
-        if !h.on {
-            return;
-        }
-        k = h.kept;
-        turns -= 1;
-    }
+    session(
+        &defaults,
+        &guests,
+        &hosts,
+        &resets,
+        &mut m,
+        &mut buf,
+        &mut out,
+    );
 }
 
 fn main() {
@@ -132,5 +160,5 @@ fn main() {
     let bytes = held.bytes;
     let loaded = sheets::load(&bytes[..n]);
     let tables = loaded.tables;
-    session(tables);
+    play_on(tables);
 }

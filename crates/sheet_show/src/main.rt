@@ -1,5 +1,4 @@
 // A register sheet as a table: the sheet's file name is the argument.
-use libc::STDOUT_FILENO;
 ghost use mathlib.Core.Path.{_≡_};
 ghost use lib.ListN.{length};
 
@@ -19,5 +18,5 @@ fn main() {
     let bytes = held.bytes;
     let mut out = out_buffer();
     let filled = sheet_rows::table(&bytes[..n], &mut out);
-    io::write_all(STDOUT_FILENO, &out[..filled]);
+    streams::put(&out[..filled]);
 }

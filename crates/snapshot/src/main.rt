@@ -1,14 +1,11 @@
 // A snapshot: plays a session of console lines silently, and writes the 256 bytes as a guest reads them in the form of `lspci -n -xxx`.
-use libc::STDOUT_FILENO;
 use rules::State;
 ghost use mathlib.Core.Path.{_≡_};
 ghost use Prim.Native.Nat.{_≤_};
 ghost use lib.ListN.{length, take};
 ghost use Rattle.rules.specs.Read.{imageOf};
-ghost use Rattle.session.specs.Session.{lastState};
-ghost use Rattle.replies.specs.Console.{lineNext, lineSay};
 ghost use Rattle.dumps.specs.Dump.{dumpText};
-ghost use Rattle.snapshot.specs.Shown.{Listened, Shows};
+ghost use Rattle.snapshot.specs.Shown.{Shown};
 
 // The dump of what a guest reads.
 fn show(s: State, out: &mut [u8]) -> usize
@@ -20,53 +17,32 @@ fn show(s: State, out: &mut [u8]) -> usize
     dumps::put_dump(out, &b)
 }
 
-// What is kept is the last line, which lacks its LF.
-fn last(s: State, buf: &[u8], k: usize, out: &mut [u8]) -> State
-    requires { ⌜ (k ≤ length (now buf)) × (24 ≤ length (now out)) ⌝ }
-    ensures { λ r. ⌜ lastState lineNext lineSay s (take k (now (buf .entry))) ≡ r ⌝ }
-    ensures { λ _. ⌜ length (now (out .exit)) ≡ length (now (out .entry)) ⌝ }
-{
-    if k == 0 {
-        return s;
-    }
-    let r = talk::reply(s, &buf[..k], out, 0);
-    r.state
-}
-
-// The state after all of standard input; the answers are dropped.
-fn listen(buf: &mut [u8], out: &mut [u8]) -> State
-    requires { ⌜ (length (now buf) ≡ 4123) × (length (now out) ≡ 98952) ⌝ }
-    ensures { λ r. ⌜ Listened r ⌝ }
-    ensures { λ _. ⌜ length (now (out .exit)) ≡ 98952 ⌝ }
-{
-    let mut s = twin::fresh();
-    let mut k: usize = 0;
-    let mut turns = u64::MAX;
-    while turns > 0 {
-        let t = hear::turn(s, buf, k, out);
-        s = t.state;
-        if !t.on {
-            return s;
-        }
-        k = t.kept;
-        turns -= 1;
-    }
-    last(s, buf, k, out)
+// The first `n` bytes of the buffer; none where the input did not end, but a read failed.
+struct Taken {
+    n: usize,
+    over: bool,
 }
 
 // The dump of what a guest reads after all of standard input.
-fn snap(buf: &mut [u8], out: &mut [u8]) -> usize
+fn snap(buf: &mut [u8], out: &mut [u8]) -> Taken
     requires { ⌜ (length (now buf) ≡ 4123) × (length (now out) ≡ 98952) ⌝ }
-    ensures { λ r. ⌜ Shows (take r (now (out .exit))) ⌝ }
-    ensures { λ r. ⌜ (r ≤ length (now (out .exit))) × (length (now (out .exit)) ≡ 98952) ⌝ }
+    ensures { λ r. ⌜ Shown (r .over) (take (r .n) (now (out .exit))) ⌝ }
+    ensures { λ r. ⌜ (r .n ≤ length (now (out .exit))) × (length (now (out .exit)) ≡ 98952) ⌝ }
 {
-    let s = listen(buf, out);
-    show(s, out)
+    let s = twin::fresh();
+    let h = hear::listen(s, false, buf, out);
+    if !h.over {
+        return Taken { n: 0, over: false };
+    }
+    let state = h.state;
+    let n = show(state, out);
+    Taken { n, over: true }
 }
 
 fn main() {
     let mut buf = hear::in_buffer();
     let mut out = hear::out_buffer();
-    let n = snap(&mut buf, &mut out);
-    io::write_all(STDOUT_FILENO, &out[..n]);
+    let s = snap(&mut buf, &mut out);
+    let n = s.n;
+    streams::put(&out[..n]);
 }

@@ -15,8 +15,8 @@ abbrev μ-loop : tie.MeasureT-loop
 loop-holds : tie.Need-loop-holds Inv-loop μ-loop
 loop-holds c = search needs
 
-read-more-requires : tie.Need-read-more-requires Inv-loop μ-loop
-read-more-requires c κs = search needs
+read-requires : tie.Need-read-requires Inv-loop μ-loop
+read-requires c κs = search needs
 
 same-length : tie.Need-same-length Inv-loop μ-loop
 same-length c = search needs
@@ -46,7 +46,7 @@ read-all-spec =
     Inv-loop
     μ-loop
     loop-holds
-    read-more-requires
+    read-requires
     same-length
     returns
     add-k

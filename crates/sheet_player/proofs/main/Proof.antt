@@ -6,35 +6,14 @@ use borrow.Author.Needs.{needs}
 use Rattle.sheet_player.proofs.main.Statement.{statement}
 use Rattle.sheet_player.proofs.main.Tie as tie
 
-named-requires : tie.Need-named-requires
-named-requires c κs = search needs
-
-returns : tie.Need-returns
-returns c = search needs
-
-array-share-prefix-bytes : tie.Need-array-share-prefix-bytes
-array-share-prefix-bytes c = search needs
-
-slice-aggregate-load : tie.Need-slice-aggregate-load
-slice-aggregate-load c = sym (length-take-le _ _ (omega arith))
-
-load-requires : tie.Need-load-requires
-load-requires c κs = search needs
-
-session-requires : tie.Need-session-requires
-session-requires c κs = search needs
-
-returns-2 : tie.Need-returns-2
-returns-2 c = search needs
-
 pub main-spec : {M : Type 1} → statement M
 main-spec =
     tie.close
     (tie.spec
-    named-requires
-    returns
-    array-share-prefix-bytes
-    slice-aggregate-load
-    load-requires
-    session-requires
-    returns-2)
+    (λ c κs. search needs)
+    (λ c. search needs)
+    (λ c. search needs)
+    (λ c. sym (length-take-le _ _ (omega arith)))
+    (λ c κs. search needs)
+    (λ c κs. search needs)
+    (λ c. search needs))

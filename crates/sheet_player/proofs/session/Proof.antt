@@ -1,63 +1,50 @@
--- A session ends: the turns that are left fall.
+-- The loop keeps the buffers and what the turns have led to, and counts down.
 use mathlib.Core.Path.{_≡_, sym}
-use native.Mathlib.Omega.{arith}
-use lib.Seq.{length-take-le}
 use Prim.Native.Nat.{_≤_}
-use lib.ListN.{length}
+use native.Mathlib.Omega.{arith}
+use lib.ListN.{length, take}
+use lib.Seq.{length-take-le}
+use Rattle.session.proofs.Turns.{So-far, at-first, goes-on, is-over, breaks-off}
+use Rattle.sheet_play.specs.Box.{box, lineBox, lineText}
 use borrow.Author.Needs.{needs}
 use Rattle.sheet_player.proofs.session.Statement.{statement}
 use Rattle.sheet_player.proofs.session.Tie as tie
 
 abbrev Inv-loop : tie.InvT-loop
-Inv-loop defaults guests hosts resets m₀ buf₀ out₀ k₀ turns₀ m buf out k turns = (k ≤ 16) × (length buf ≡ 8208) × (length out ≡ 98496)
+Inv-loop defaults guests hosts resets m₀ buf₀ out₀ k₀ turns₀ m buf out k turns = (k ≤ 16) × (length buf ≡ 8208) × (length out ≡ 98496) × So-far lineBox lineText 16 (box defaults guests hosts resets m₀) (box defaults guests hosts resets m) (take k buf)
 
 abbrev μ-loop : tie.MeasureT-loop
 μ-loop defaults guests hosts resets m₀ buf₀ out₀ k₀ turns₀ m buf out k turns = turns
 
-in-buffer-requires : tie.Need-in-buffer-requires Inv-loop μ-loop
-in-buffer-requires c κs = search needs
-
-out-buffer-requires : tie.Need-out-buffer-requires Inv-loop μ-loop
-out-buffer-requires c κs = search needs
-
 loop-holds : tie.Need-loop-holds Inv-loop μ-loop
-loop-holds c = search needs
-
-slice-aggregate-turn : tie.Need-slice-aggregate-turn Inv-loop μ-loop
-slice-aggregate-turn c = search needs
-
-slice-aggregate-turn-2 : tie.Need-slice-aggregate-turn-2 Inv-loop μ-loop
-slice-aggregate-turn-2 c = search needs
-
-turn-requires : tie.Need-turn-requires Inv-loop μ-loop
-turn-requires c κs = search needs
-
-array-share-prefix-out : tie.Need-array-share-prefix-out Inv-loop μ-loop
-array-share-prefix-out c = search needs
-
-slice-aggregate-write-all : tie.Need-slice-aggregate-write-all Inv-loop μ-loop
-slice-aggregate-write-all c = sym (length-take-le _ _ (omega arith))
-
-write-all-requires : tie.Need-write-all-requires Inv-loop μ-loop
-write-all-requires c κs = search needs
+loop-holds c = (omega arith, c .before .before .before .pre .0, c .before .before .before .pre .1, at-first lineBox lineText 16 _)
 
 returns : tie.Need-returns Inv-loop μ-loop
-returns c = tt
+returns c =
+    let a = c .before .before .before .before .before .before .before .before .before .before .before .before .before .before .before .before .before .args in
+    let l = c .before .before .before .before .before .before .before .before .before .before .before .before .before .loop in
+    let t = c .before .before .before .before .before .before .before .before .turn in
+    is-over lineBox lineText 16 (t .result .on) (t .result .over) (box (a .defaults .now) (a .guests .now) (a .hosts .now) (a .resets .now) (a .m .now)) (box (a .defaults .now) (a .guests .now) (a .hosts .now) (a .resets .now) (l .m)) (box (a .defaults .now) (a .guests .now) (a .hosts .now) (a .resets .now) (t .last .1 .1 .1 .1 .0)) (take (l .k) (l .buf)) (take (t .result .filled) (t .last .1 .1 .1 .1 .1 .1 .1 .0)) (take (t .result .kept) (t .last .1 .1 .1 .1 .1 .0)) (c .if1 .taken) (l .inv .3) (t .ensures .1)
 
 returns-2 : tie.Need-returns-2 Inv-loop μ-loop
-returns-2 c = tt
-
-sub-turns : tie.Need-sub-turns Inv-loop μ-loop
-sub-turns c = search needs
-
-loop-less : tie.Need-loop-less Inv-loop μ-loop
-loop-less c = search needs
+returns-2 c =
+    let a = c .before .before .before .before .before .before .before .before .before .before .before .before .before .before .before .before .before .before .args in
+    let l = c .before .before .before .before .before .before .before .before .before .before .before .before .before .before .loop in
+    let t = c .before .before .before .before .before .before .before .before .before .turn in
+    breaks-off lineBox lineText 16 (box (a .defaults .now) (a .guests .now) (a .hosts .now) (a .resets .now) (a .m .now)) (box (a .defaults .now) (a .guests .now) (a .hosts .now) (a .resets .now) (t .last .1 .1 .1 .1 .0)) _ (goes-on lineBox lineText 16 (t .result .on) (t .result .over) (box (a .defaults .now) (a .guests .now) (a .hosts .now) (a .resets .now) (a .m .now)) (box (a .defaults .now) (a .guests .now) (a .hosts .now) (a .resets .now) (l .m)) (box (a .defaults .now) (a .guests .now) (a .hosts .now) (a .resets .now) (t .last .1 .1 .1 .1 .0)) (take (l .k) (l .buf)) (take (t .result .filled) (t .last .1 .1 .1 .1 .1 .1 .1 .0)) (take (t .result .kept) (t .last .1 .1 .1 .1 .1 .0)) (c .before .if1 .left) (l .inv .3) (t .ensures .1))
 
 loop-again : tie.Need-loop-again Inv-loop μ-loop
-loop-again c = search needs
+loop-again c =
+    let a = c .before .before .before .before .before .before .before .before .before .before .before .before .before .before .before .before .before .before .args in
+    let l = c .before .before .before .before .before .before .before .before .before .before .before .before .before .before .loop in
+    let t = c .before .before .before .before .before .before .before .before .before .turn in
+    (t .ensures .0 .0, t .ensures .0 .2, t .ensures .0 .3, goes-on lineBox lineText 16 (t .result .on) (t .result .over) (box (a .defaults .now) (a .guests .now) (a .hosts .now) (a .resets .now) (a .m .now)) (box (a .defaults .now) (a .guests .now) (a .hosts .now) (a .resets .now) (l .m)) (box (a .defaults .now) (a .guests .now) (a .hosts .now) (a .resets .now) (t .last .1 .1 .1 .1 .0)) (take (l .k) (l .buf)) (take (t .result .filled) (t .last .1 .1 .1 .1 .1 .1 .1 .0)) (take (t .result .kept) (t .last .1 .1 .1 .1 .1 .0)) (c .before .if1 .left) (l .inv .3) (t .ensures .1))
 
 returns-3 : tie.Need-returns-3 Inv-loop μ-loop
-returns-3 c = tt
+returns-3 c =
+    let a = c .before .before .before .before .before .args in
+    let l = c .before .loop in
+    breaks-off lineBox lineText 16 (box (a .defaults .now) (a .guests .now) (a .hosts .now) (a .resets .now) (a .m .now)) (box (a .defaults .now) (a .guests .now) (a .hosts .now) (a .resets .now) (l .m)) _ (l .inv .3)
 
 pub session-spec : {M : Type 1} → statement M
 session-spec =
@@ -65,18 +52,21 @@ session-spec =
     (tie.spec
     Inv-loop
     μ-loop
-    in-buffer-requires
-    out-buffer-requires
+    (λ c κs. search needs)
     loop-holds
-    slice-aggregate-turn
-    slice-aggregate-turn-2
-    turn-requires
-    array-share-prefix-out
-    slice-aggregate-write-all
-    write-all-requires
+    (λ c κs. search needs)
+    (λ c. search needs)
+    (λ c. sym (length-take-le _ _ (omega arith)))
+    (λ c κs. search needs)
+    (λ c. search needs)
+    (λ c. search needs)
     returns
+    (λ c. search needs)
+    (λ c. search needs)
     returns-2
-    sub-turns
-    loop-less
+    (λ c. search needs)
+    (λ c. search needs)
     loop-again
+    (λ c. search needs)
+    (λ c. search needs)
     returns-3)

@@ -1,30 +1,30 @@
--- The state after some input, and its dump.
-use mathlib.Core.Path.{sym, ap, _∙_}
+-- The state after all of the input, and its dump; nothing where it did not end.
 use native.Mathlib.Omega.{arith}
+use lib.ListN.{take}
+use Rattle.snapshot.proofs.Blocks.{shown}
 use borrow.Author.Needs.{needs}
-use Rattle.rules.specs.declared.State.{State}
-use Rattle.rules.specs.Read.{imageOf}
-use Rattle.dumps.specs.Dump.{dumpText}
 use Rattle.snapshot.proofs.snap.Statement.{statement}
 use Rattle.snapshot.proofs.snap.Tie as tie
 
-listen-requires : tie.Need-listen-requires
-listen-requires c κs = search needs
-
-show-requires : tie.Need-show-requires
-show-requires c κs = search needs
-
-same-length : tie.Need-same-length
-same-length c = search needs
-
-same-length-2 : tie.Need-same-length-2
-same-length-2 c = search needs
-
 returns : tie.Need-returns
-returns c =
-    let h = c .before .before .before .before .before .before .before .before .listen in
+returns c = search needs
+
+returns-2 : tie.Need-returns-2
+returns-2 c =
+    let h = c .before .before .before .before .before .before .before .before .before .before .before .listen in
     let d = c .before .before .show in
-    ((h .ensures .0 .0, ap (λ (s : State). dumpText (imageOf s)) (h .ensures .0 .1) ∙ sym (d .ensures .0)), (d .ensures .1 .0, omega (arith, d .ensures .1 .1, h .ensures .1)))
+    (shown (h .result .over) (h .result .state) (take (d .result) (d .last .1 .0)) (c .before .before .before .before .before .if1 .left) (rw (c .before .before .before .before .before .before .before .before .before .before .before .before .before .before .fresh .ensures) at (h .ensures .0)) (d .ensures .0), (d .ensures .1 .0, omega (arith, d .ensures .1 .1, h .ensures .1)))
 
 pub snap-spec : {M : Type 1} → statement M
-snap-spec = tie.close (tie.spec listen-requires show-requires same-length same-length-2 returns)
+snap-spec =
+    tie.close
+    (tie.spec
+    (λ c κs. search needs)
+    (λ c κs. search needs)
+    (λ c. search needs)
+    (λ c. search needs)
+    returns
+    (λ c κs. search needs)
+    (λ c. search needs)
+    (λ c. search needs)
+    returns-2)
