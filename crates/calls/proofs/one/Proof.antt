@@ -5,19 +5,13 @@ use borrow.Author.Needs.{needs}
 use Rattle.calls.proofs.one.Statement.{statement}
 use Rattle.calls.proofs.one.Tie as tie
 
-add-if1 : tie.Need-add-if1
-add-if1 c = search needs
-
 returns : tie.Need-returns
 unfolding oneOf
 returns c = search tests
-
-field-requires : tie.Need-field-requires
-field-requires c κs = search needs
 
 returns-2 : tie.Need-returns-2
 unfolding oneOf
 returns-2 c = search (tests, c .field .ensures)
 
 pub one-spec : {M : Type 1} → statement M
-one-spec = tie.close (tie.spec add-if1 returns field-requires returns-2)
+one-spec = tie.close (tie.spec (λ c. search needs) returns (λ c κs. search needs) returns-2)

@@ -14,18 +14,9 @@ none-first : (l : List ℕ) → length l ≡ 0 → getD l 0 0 ≡ 0
 none-first [] e = refl
 none-first (x ∷ l) e = absurd (omega arith)
 
-by-letter-requires : tie.Need-by-letter-requires
-by-letter-requires c κs = search needs
-
 returns : tie.Need-returns
 unfolding callOf
 returns c = rw (none-first _ (c .before .if1 .taken)) (c .by-letter .ensures)
-
-shared-slice-read-by-letter : tie.Need-shared-slice-read-by-letter
-shared-slice-read-by-letter c = search needs
-
-by-letter-requires-2 : tie.Need-by-letter-requires-2
-by-letter-requires-2 c κs = search needs
 
 returns-2 : tie.Need-returns-2
 unfolding callOf
@@ -35,8 +26,8 @@ pub parse-spec : {M : Type 1} → statement M
 parse-spec =
     tie.close
     (tie.spec
-    by-letter-requires
+    (λ c κs. search needs)
     returns
-    shared-slice-read-by-letter
-    by-letter-requires-2
+    (λ c. search needs)
+    (λ c κs. search needs)
     returns-2)

@@ -8,40 +8,13 @@ use borrow.Author.Needs.{needs}
 use Rattle.calls.proofs.two.Statement.{statement}
 use Rattle.calls.proofs.two.Tie as tie
 
-add-if1 : tie.Need-add-if1
-add-if1 c = search needs
-
-add-if1-2 : tie.Need-add-if1-2
-add-if1-2 c = search needs
-
 returns : tie.Need-returns
 unfolding twoOf
 returns c = search tests
 
-field-requires : tie.Need-field-requires
-field-requires c κs = search needs
-
-enum-known-x : tie.Need-enum-known-x
-enum-known-x c = search needs
-
-enum-told : tie.Need-enum-told
-enum-told c = search needs
-
 returns-2 : tie.Need-returns-2
 unfolding twoOf
 returns-2 c = rw (eq-eqb _ _ (c .before .before .before .if1 .left), sym (c .before .before .field .ensures) ∙ c .enum-told .given .1)
-
-add-field : tie.Need-add-field
-add-field c = search needs
-
-field-requires-2 : tie.Need-field-requires-2
-field-requires-2 c κs = search needs
-
-enum-known-y : tie.Need-enum-known-y
-enum-known-y c = search needs
-
-enum-told-2 : tie.Need-enum-told-2
-enum-told-2 c = search needs
 
 returns-3 : tie.Need-returns-3
 unfolding twoOf
@@ -61,17 +34,17 @@ pub two-spec : {M : Type 1} → statement M
 two-spec =
     tie.close
     (tie.spec
-    add-if1
-    add-if1-2
+    (λ c. search needs)
+    (λ c. search needs)
     returns
-    field-requires
-    enum-known-x
-    enum-told
+    (λ c κs. search needs)
+    (λ c. search needs)
+    (λ c. search needs)
     returns-2
-    add-field
-    field-requires-2
-    enum-known-y
-    enum-told-2
+    (λ c. search needs)
+    (λ c κs. search needs)
+    (λ c. search needs)
+    (λ c. search needs)
     returns-3
     cast-t12
     cast-t13

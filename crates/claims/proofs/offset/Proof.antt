@@ -5,14 +5,8 @@ use borrow.Author.Needs.{needs}
 use Rattle.claims.proofs.offset.Statement.{statement}
 use Rattle.claims.proofs.offset.Tie as tie
 
-rem-result : tie.Need-rem-result
-rem-result c = search needs
-
 cast-result : tie.Need-cast-result
 cast-result c = record { fits = omega (arith, mod-lt (c .args .address) (c .pre .0)) }
 
-returns : tie.Need-returns
-returns c = search needs
-
 pub offset-spec : {M : Type 1} → statement M
-offset-spec = tie.close (tie.spec rem-result cast-result returns)
+offset-spec = tie.close (tie.spec (λ c. search needs) cast-result (λ c. search needs))

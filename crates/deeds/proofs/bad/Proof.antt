@@ -6,14 +6,8 @@ use borrow.Author.Needs.{needs}
 use Rattle.deeds.proofs.bad.Statement.{statement}
 use Rattle.deeds.proofs.bad.Tie as tie
 
-cast-no : tie.Need-cast-no
-cast-no c = search needs
-
-no-requires : tie.Need-no-requires
-no-requires c κs = search needs
-
 returns : tie.Need-returns
 returns c = ap (λ (x : Reply). leaves x (c .before .args .s)) (c .no .ensures)
 
 pub bad-spec : {M : Type 1} → statement M
-bad-spec = tie.close (tie.spec cast-no no-requires returns)
+bad-spec = tie.close (tie.spec (λ c. search needs) (λ c κs. search needs) returns)

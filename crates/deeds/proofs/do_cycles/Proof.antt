@@ -7,14 +7,8 @@ use borrow.Author.Needs.{needs}
 use Rattle.deeds.proofs.do_cycles.Statement.{statement}
 use Rattle.deeds.proofs.do_cycles.Tie as tie
 
-ok-requires : tie.Need-ok-requires
-ok-requires c κs = search needs
-
-add-cycles-requires : tie.Need-add-cycles-requires
-add-cycles-requires c κs = search needs
-
 returns : tie.Need-returns
 returns c = ap (λ (x : Reply). leaves x (c .add-cycles .result)) (c .before .ok .ensures) ∙ ap (λ (x : State). leaves (ok 0) x) (c .add-cycles .ensures)
 
 pub do-cycles-spec : {M : Type 1} → statement M
-do-cycles-spec = tie.close (tie.spec ok-requires add-cycles-requires returns)
+do-cycles-spec = tie.close (tie.spec (λ c κs. search needs) (λ c κs. search needs) returns)

@@ -7,14 +7,8 @@ use borrow.Author.Needs.{needs}
 use Rattle.deeds.proofs.do_end.Statement.{statement}
 use Rattle.deeds.proofs.do_end.Tie as tie
 
-ok-requires : tie.Need-ok-requires
-ok-requires c κs = search needs
-
-end-signal-requires : tie.Need-end-signal-requires
-end-signal-requires c κs = search needs
-
 returns : tie.Need-returns
 returns c = ap (λ (x : Reply). leaves x (c .end-signal .result)) (c .before .ok .ensures) ∙ ap (λ (x : State). leaves (ok 0) x) (c .end-signal .ensures)
 
 pub do-end-spec : {M : Type 1} → statement M
-do-end-spec = tie.close (tie.spec ok-requires end-signal-requires returns)
+do-end-spec = tie.close (tie.spec (λ c κs. search needs) (λ c κs. search needs) returns)

@@ -8,21 +8,9 @@ use borrow.Author.Needs.{needs}
 use Rattle.deeds.proofs.do_port.Statement.{statement}
 use Rattle.deeds.proofs.do_port.Tie as tie
 
-bad-requires : tie.Need-bad-requires
-bad-requires c κs = search needs
-
 returns : tie.Need-returns
 unfolding portDeed
 returns c = rw (lt-ltb _ _ (c .before .if1 .taken)) (c .bad .ensures)
-
-cast-claim-port : tie.Need-cast-claim-port
-cast-claim-port c = search needs
-
-claim-port-requires : tie.Need-claim-port-requires
-claim-port-requires c κs = search needs
-
-claim-told-requires : tie.Need-claim-told-requires
-claim-told-requires c κs = search needs
 
 returns-2 : tie.Need-returns-2
 unfolding portDeed
@@ -32,9 +20,9 @@ pub do-port-spec : {M : Type 1} → statement M
 do-port-spec =
     tie.close
     (tie.spec
-    bad-requires
+    (λ c κs. search needs)
     returns
-    cast-claim-port
-    claim-port-requires
-    claim-told-requires
+    (λ c. search needs)
+    (λ c κs. search needs)
+    (λ c κs. search needs)
     returns-2)

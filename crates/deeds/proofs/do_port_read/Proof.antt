@@ -8,21 +8,9 @@ use borrow.Author.Needs.{needs}
 use Rattle.deeds.proofs.do_port_read.Statement.{statement}
 use Rattle.deeds.proofs.do_port_read.Tie as tie
 
-bad-requires : tie.Need-bad-requires
-bad-requires c κs = search needs
-
 returns : tie.Need-returns
 unfolding portReadDeed
 returns c = rw (lt-ltb _ _ (c .before .if1 .taken)) (c .bad .ensures)
-
-cast-port-read : tie.Need-cast-port-read
-cast-port-read c = search needs
-
-port-read-requires : tie.Need-port-read-requires
-port-read-requires c κs = search needs
-
-port-read-told-requires : tie.Need-port-read-told-requires
-port-read-told-requires c κs = search needs
 
 returns-2 : tie.Need-returns-2
 unfolding portReadDeed
@@ -32,9 +20,9 @@ pub do-port-read-spec : {M : Type 1} → statement M
 do-port-read-spec =
     tie.close
     (tie.spec
-    bad-requires
+    (λ c κs. search needs)
     returns
-    cast-port-read
-    port-read-requires
-    port-read-told-requires
+    (λ c. search needs)
+    (λ c κs. search needs)
+    (λ c κs. search needs)
     returns-2)

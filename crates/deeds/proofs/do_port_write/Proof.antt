@@ -8,21 +8,9 @@ use borrow.Author.Needs.{needs}
 use Rattle.deeds.proofs.do_port_write.Statement.{statement}
 use Rattle.deeds.proofs.do_port_write.Tie as tie
 
-bad-requires : tie.Need-bad-requires
-bad-requires c κs = search needs
-
 returns : tie.Need-returns
 unfolding portWriteDeed
 returns c = rw (lt-ltb _ _ (c .before .if1 .taken)) (c .bad .ensures)
-
-cast-port-write : tie.Need-cast-port-write
-cast-port-write c = search needs
-
-port-write-requires : tie.Need-port-write-requires
-port-write-requires c κs = search needs
-
-port-write-told-requires : tie.Need-port-write-told-requires
-port-write-told-requires c κs = search needs
 
 returns-2 : tie.Need-returns-2
 unfolding portWriteDeed
@@ -32,9 +20,9 @@ pub do-port-write-spec : {M : Type 1} → statement M
 do-port-write-spec =
     tie.close
     (tie.spec
-    bad-requires
+    (λ c κs. search needs)
     returns
-    cast-port-write
-    port-write-requires
-    port-write-told-requires
+    (λ c. search needs)
+    (λ c κs. search needs)
+    (λ c κs. search needs)
     returns-2)

@@ -6,14 +6,8 @@ use borrow.Author.Needs.{needs}
 use Rattle.deeds.proofs.do_read.Statement.{statement}
 use Rattle.deeds.proofs.do_read.Tie as tie
 
-read-requires : tie.Need-read-requires
-read-requires c κs = search needs
-
-read-told-requires : tie.Need-read-told-requires
-read-told-requires c κs = search needs
-
 returns : tie.Need-returns
 returns c = ap (λ (x : Reply). leaves x (c .before .before .args .s)) (c .read-told .ensures ∙ c .before .read .ensures)
 
 pub do-read-spec : {M : Type 1} → statement M
-do-read-spec = tie.close (tie.spec read-requires read-told-requires returns)
+do-read-spec = tie.close (tie.spec (λ c κs. search needs) (λ c κs. search needs) returns)

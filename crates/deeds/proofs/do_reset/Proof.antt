@@ -7,14 +7,8 @@ use borrow.Author.Needs.{needs}
 use Rattle.deeds.proofs.do_reset.Statement.{statement}
 use Rattle.deeds.proofs.do_reset.Tie as tie
 
-ok-requires : tie.Need-ok-requires
-ok-requires c κs = search needs
-
-platform-reset-requires : tie.Need-platform-reset-requires
-platform-reset-requires c κs = search needs
-
 returns : tie.Need-returns
 returns c = ap (λ (x : Reply). leaves x (c .platform-reset .result)) (c .before .ok .ensures) ∙ ap (λ (x : State). leaves (ok 0) x) (c .platform-reset .ensures)
 
 pub do-reset-spec : {M : Type 1} → statement M
-do-reset-spec = tie.close (tie.spec ok-requires platform-reset-requires returns)
+do-reset-spec = tie.close (tie.spec (λ c κs. search needs) (λ c κs. search needs) returns)

@@ -6,11 +6,8 @@ use borrow.Author.Needs.{needs}
 use Rattle.deeds.proofs.reach.Statement.{statement}
 use Rattle.deeds.proofs.reach.Tie as tie
 
-window-told-requires : tie.Need-window-told-requires
-window-told-requires c κs = search needs
-
 returns : tie.Need-returns
 returns c = ap (λ (x : Reply). leaves x (c .before .before .args .r .state)) (c .window-told .ensures)
 
 pub reach-spec : {M : Type 1} → statement M
-reach-spec = tie.close (tie.spec window-told-requires returns)
+reach-spec = tie.close (tie.spec (λ c κs. search needs) returns)

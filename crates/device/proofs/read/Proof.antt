@@ -9,9 +9,6 @@ use borrow.Author.Needs.{needs}
 use Rattle.device.proofs.read.Statement.{statement}
 use Rattle.device.proofs.read.Tie as tie
 
-read-in-requires : tie.Need-read-in-requires
-read-in-requires c κs = search needs
-
 returns : tie.Need-returns
 returns c =
     let a = c .before .before .before .args in
@@ -20,4 +17,4 @@ returns c =
     c .read-in .ensures ∙ read-is (a .s .bytes) (λ i. fits i .fits) (a .offset) (a .lanes)
 
 pub read-spec : {M : Type 1} → statement M
-read-spec = tie.close (tie.spec read-in-requires returns)
+read-spec = tie.close (tie.spec (λ c κs. search needs) returns)

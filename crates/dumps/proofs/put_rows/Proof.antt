@@ -22,23 +22,11 @@ loop-holds c =
     let a = c .before .args in
     (omega arith, omega arith, refl, none-joined (take (a .o) (a .out .now)) (rowText (a .b .now)) 0)
 
-put-row-requires : tie.Need-put-row-requires Inv-loop μ-loop
-put-row-requires c κs = search needs
-
-add-j : tie.Need-add-j Inv-loop μ-loop
-add-j c = search needs
-
-loop-less : tie.Need-loop-less Inv-loop μ-loop
-loop-less c = search needs
-
 loop-again : tie.Need-loop-again Inv-loop μ-loop
 loop-again c =
     let d = c .before .before .before .before .before .loop in
     let a = c .before .before .before .before .before .before .before .args in
     (omega arith, omega arith, omega arith, join-next (take (a .o) (a .out .now)) (take (d .p) (d .out)) _ (rowText (a .b .now)) (d .j) 0 (d .j) (omega arith) (d .inv .3) (c .before .before .put-row .ensures .0))
-
-same-length : tie.Need-same-length Inv-loop μ-loop
-same-length c = search needs
 
 returns : tie.Need-returns Inv-loop μ-loop
 returns c =
@@ -53,9 +41,9 @@ put-rows-spec =
     Inv-loop
     μ-loop
     loop-holds
-    put-row-requires
-    add-j
-    loop-less
+    (λ c κs. search needs)
+    (λ c. search needs)
+    (λ c. search needs)
     loop-again
-    same-length
+    (λ c. search needs)
     returns)

@@ -17,15 +17,9 @@ returns-3 : tie.Need-returns-3
 unfolding hostCommandOf
 returns-3 c = search tests
 
-cast-t5 : tie.Need-cast-t5
-cast-t5 c = search needs
-
-cast-t6 : tie.Need-cast-t6
-cast-t6 c = search needs
-
 returns-4 : tie.Need-returns-4
 unfolding hostCommandOf
 returns-4 c = search tests
 
 pub host-command-spec : {M : Type 1} → statement M
-host-command-spec = tie.close (tie.spec returns returns-2 returns-3 cast-t5 cast-t6 returns-4)
+host-command-spec = tie.close (tie.spec returns returns-2 returns-3 (λ c. search needs) (λ c. search needs) returns-4)

@@ -29,17 +29,8 @@ abbrev μ-loop : tie.MeasureT-loop
 loop-holds : tie.Need-loop-holds Inv-loop μ-loop
 loop-holds c = (omega arith, λ e. starts (c .args .s .now) (c .args .i))
 
-add-if1 : tie.Need-add-if1 Inv-loop μ-loop
-add-if1 c = search needs
-
 shared-slice-read-if1 : tie.Need-shared-slice-read-if1 Inv-loop μ-loop
 shared-slice-read-if1 c = omega (arith, c .before .before .before .pre, c .before .before .loop .inv .0, c .before .loop-test .taken)
-
-add-k : tie.Need-add-k Inv-loop μ-loop
-add-k c = search needs
-
-loop-less : tie.Need-loop-less Inv-loop μ-loop
-loop-less c = search needs
 
 loop-again : tie.Need-loop-again Inv-loop μ-loop
 loop-again c = (omega arith, λ e. ⊎-elim (λ w. absurd (omega (arith, e, w .1))) (λ w. goes (c .before .before .before .before .args .s .now) (c .before .before .before .before .args .i) (c .before .before .before .loop .k) (omega (arith, c .before .before .before .before .pre, c .before .before .loop-test .taken)) (w .0 .left) (c .before .before .before .loop .inv .1 (omega (arith, e, w .1)))) (c .if1 .came))
@@ -54,9 +45,9 @@ some-lf-spec =
     Inv-loop
     μ-loop
     loop-holds
-    add-if1
+    (λ c. search needs)
     shared-slice-read-if1
-    add-k
-    loop-less
+    (λ c. search needs)
+    (λ c. search needs)
     loop-again
     returns)

@@ -11,11 +11,8 @@ scale-requires c κs = omega (arith, some (c .args .w) (c .pre .0))
 div-low : tie.Need-div-low
 div-low c = rw (c .scale .ensures) (scaled (c .before .args .a))
 
-low-requires : tie.Need-low-requires
-low-requires c κs = search needs
-
 returns : tie.Need-returns
 returns c = rw (c .low .ensures, c .before .scale .ensures)
 
 pub part-spec : {M : Type 1} → statement M
-part-spec = tie.close (tie.spec scale-requires div-low low-requires returns)
+part-spec = tie.close (tie.spec scale-requires div-low (λ c κs. search needs) returns)

@@ -5,9 +5,6 @@ use borrow.Author.Needs.{needs}
 use Rattle.ports.proofs.place.Statement.{statement}
 use Rattle.ports.proofs.place.Tie as tie
 
-low-requires : tie.Need-low-requires
-low-requires c κs = search needs
-
 scale-requires : tie.Need-scale-requires
 scale-requires c κs = omega (arith, some (c .before .args .w) (c .before .pre .0))
 
@@ -20,4 +17,4 @@ returns : tie.Need-returns
 returns c = rw (c .before .low .ensures, c .scale .ensures)
 
 pub place-spec : {M : Type 1} → statement M
-place-spec = tie.close (tie.spec low-requires scale-requires mul-result returns)
+place-spec = tie.close (tie.spec (λ c κs. search needs) scale-requires mul-result returns)

@@ -5,12 +5,9 @@ use borrow.Author.Needs.{needs}
 use Rattle.replies.proofs.reach.Statement.{statement}
 use Rattle.replies.proofs.reach.Tie as tie
 
-window-said-requires : tie.Need-window-said-requires
-window-said-requires c κs = search needs
-
 returns : tie.Need-returns
 unfolding answerText
 returns c = (c .window-said .ensures, refl)
 
 pub reach-spec : {M : Type 1} → statement M
-reach-spec = tie.close (tie.spec window-said-requires returns)
+reach-spec = tie.close (tie.spec (λ c κs. search needs) returns)

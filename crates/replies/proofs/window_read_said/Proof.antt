@@ -4,15 +4,6 @@ use borrow.Author.Needs.{needs}
 use Rattle.replies.proofs.window_read_said.Statement.{statement}
 use Rattle.replies.proofs.window_read_said.Tie as tie
 
-enum-known-a : tie.Need-enum-known-a
-enum-known-a c = search needs
-
-enum-told : tie.Need-enum-told
-enum-told c = search needs
-
-enum-told-2 : tie.Need-enum-told-2
-enum-told-2 c = search needs
-
 returns : tie.Need-returns
 unfolding textOf
 returns c = rw (c .before .a .given .1)
@@ -28,4 +19,4 @@ returns-3 c = rw (c .enum-told2 .given .1)
 pub window-read-said-spec : {M : Type 1} → statement M
 window-read-said-spec =
     tie.close
-    (tie.spec enum-known-a enum-told enum-told-2 returns returns-2 returns-3)
+    (tie.spec (λ c. search needs) (λ c. search needs) (λ c. search needs) returns returns-2 returns-3)

@@ -6,9 +6,6 @@ use borrow.Author.Needs.{needs}
 use Rattle.sheet_rows.proofs.up.Statement.{statement}
 use Rattle.sheet_rows.proofs.up.Tie as tie
 
-digit-requires : tie.Need-digit-requires
-digit-requires c κs = search needs
-
 returns : tie.Need-returns
 returns c =
     let n = c .before .args .n in
@@ -16,4 +13,4 @@ returns c =
     c .digit .ensures ∙ rw same
 
 pub up-spec : {M : Type 1} → statement M
-up-spec = tie.close (tie.spec digit-requires returns)
+up-spec = tie.close (tie.spec (λ c κs. search needs) returns)

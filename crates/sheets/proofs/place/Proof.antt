@@ -8,18 +8,6 @@ use borrow.Author.Needs.{needs}
 use Rattle.sheets.proofs.place.Statement.{statement}
 use Rattle.sheets.proofs.place.Tie as tie
 
-enum-known-e : tie.Need-enum-known-e
-enum-known-e c = search needs
-
-cast-offset : tie.Need-cast-offset
-cast-offset c = search needs
-
-cast-start : tie.Need-cast-start
-cast-start c = search needs
-
-cast-start-2 : tie.Need-cast-start-2
-cast-start-2 c = search needs
-
 mul-start : tie.Need-mul-start
 mul-start c =
     let g = c .before .before .before .args in
@@ -48,27 +36,21 @@ add-result c =
     let bound = part-below-1024 (g .p) l (c .before .before .before .before .pre .0) (omega arith) in
     record { fits = omega (arith, bound) }
 
-enum-told : tie.Need-enum-told
-enum-told c = search needs
-
 returns-2 : tie.Need-returns-2
 returns-2 c = rw (c .before .before .e .given .1)
-
-returns-3 : tie.Need-returns-3
-returns-3 c = search needs
 
 pub place-spec : {M : Type 1} → statement M
 place-spec =
     tie.close
     (tie.spec
-    enum-known-e
-    cast-offset
-    cast-start
-    cast-start-2
+    (λ c. search needs)
+    (λ c. search needs)
+    (λ c. search needs)
+    (λ c. search needs)
     mul-start
     add-start
     returns
     add-result
-    enum-told
+    (λ c. search needs)
     returns-2
-    returns-3)
+    (λ c. search needs))

@@ -22,41 +22,11 @@ Inv-loop s n k₀ end₀ place₀ k end place = (k ≤ n) × (end ≡ endBefore 
 abbrev μ-loop : tie.MeasureT-loop
 μ-loop s n k₀ end₀ place₀ k end place = n - k
 
-mul-place : tie.Need-mul-place Inv-loop μ-loop
-mul-place c = search needs
-
-add-place : tie.Need-add-place Inv-loop μ-loop
-add-place c = search needs
-
 loop-holds : tie.Need-loop-holds Inv-loop μ-loop
 unfolding endBefore belongs
 loop-holds c =
     let a = c .before .args in
     (omega arith, refl, rw (c .before .pre .0), omega arith, first-start accepts Good (entryOf (a .s .now)) (a .n))
-
-entry-of-requires : tie.Need-entry-of-requires Inv-loop μ-loop
-entry-of-requires c κs = search needs
-
-judge-requires : tie.Need-judge-requires Inv-loop μ-loop
-judge-requires c κs = search needs
-
-good-requires : tie.Need-good-requires Inv-loop μ-loop
-good-requires c κs = search needs
-
-end-of-requires : tie.Need-end-of-requires Inv-loop μ-loop
-end-of-requires c κs = search needs
-
-long-of-requires : tie.Need-long-of-requires Inv-loop μ-loop
-long-of-requires c κs = search needs
-
-add-place-2 : tie.Need-add-place-2 Inv-loop μ-loop
-add-place-2 c = search needs
-
-add-k : tie.Need-add-k Inv-loop μ-loop
-add-k c = search needs
-
-loop-less : tie.Need-loop-less Inv-loop μ-loop
-loop-less c = search needs
 
 loop-again : tie.Need-loop-again Inv-loop μ-loop
 unfolding endBefore belongs
@@ -102,17 +72,17 @@ walk-entries-spec =
     (tie.spec
     Inv-loop
     μ-loop
-    mul-place
-    add-place
+    (λ c. search needs)
+    (λ c. search needs)
     loop-holds
-    entry-of-requires
-    judge-requires
-    good-requires
-    end-of-requires
-    long-of-requires
-    add-place-2
-    add-k
-    loop-less
+    (λ c κs. search needs)
+    (λ c κs. search needs)
+    (λ c κs. search needs)
+    (λ c κs. search needs)
+    (λ c κs. search needs)
+    (λ c. search needs)
+    (λ c. search needs)
+    (λ c. search needs)
     loop-again
     returns
     returns-2)

@@ -11,9 +11,6 @@ Inv-loop fd buf done₀ tries₀ done tries = done ≤ length buf
 abbrev μ-loop : tie.MeasureT-loop
 μ-loop fd buf done₀ tries₀ done tries = tries
 
-returns : tie.Need-returns Inv-loop μ-loop
-returns c = search needs
-
 pub write-spec : {M : Type 1} → statement M
 write-spec =
     tie.close
@@ -22,7 +19,7 @@ write-spec =
     μ-loop
     (λ c κs. search needs)
     (λ c. search needs)
-    returns
+    (λ c. search needs)
     (λ c κs. search needs)
     (λ c κs. search needs)
     (λ c. search needs)

@@ -9,9 +9,6 @@ use borrow.Author.Needs.{needs}
 use Rattle.twin.proofs.image.Statement.{statement}
 use Rattle.twin.proofs.image.Tie as tie
 
-image-requires : tie.Need-image-requires
-image-requires c κs = search needs
-
 returns : tie.Need-returns
 returns c =
     let s = c .before .before .before .args .s in
@@ -20,4 +17,4 @@ returns c =
     c .image .ensures ∙ image-is s (λ i. fits i .fits) n
 
 pub image-spec : {M : Type 1} → statement M
-image-spec = tie.close (tie.spec image-requires returns)
+image-spec = tie.close (tie.spec (λ c κs. search needs) returns)

@@ -6,12 +6,9 @@ use borrow.Author.Needs.{needs}
 use Rattle.window.proofs.masked.Statement.{statement}
 use Rattle.window.proofs.masked.Tie as tie
 
-blend32-requires : tie.Need-blend32-requires
-blend32-requires c κs = search needs
-
 returns : tie.Need-returns
 unfolding masked
 returns c = let a = c .before .args in c .blend32 .ensures ∙ blend-each 32 (a .m) (a .x) (a .value)
 
 pub masked-spec : {M : Type 1} → statement M
-masked-spec = tie.close (tie.spec blend32-requires returns)
+masked-spec = tie.close (tie.spec (λ c κs. search needs) returns)

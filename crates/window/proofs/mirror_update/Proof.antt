@@ -6,18 +6,9 @@ use borrow.Author.Needs.{needs}
 use Rattle.window.proofs.mirror_update.Statement.{statement}
 use Rattle.window.proofs.mirror_update.Tie as tie
 
-bad-offset-requires : tie.Need-bad-offset-requires
-bad-offset-requires c κs = search needs
-
 returns : tie.Need-returns
 unfolding mirrorUpdateOf
 returns c = rw (sym (c .before .bad-offset .ensures) ∙ c .if1 .taken)
-
-mask-at-requires : tie.Need-mask-at-requires
-mask-at-requires c κs = search needs
-
-outside-requires : tie.Need-outside-requires
-outside-requires c κs = search needs
 
 returns-2 : tie.Need-returns-2
 unfolding mirrorUpdateOf
@@ -25,9 +16,6 @@ returns-2 c =
     let a = c .before .before .before .before .before .args in
     let far = ap (λ (k : ℕ). beyond k (a .mask)) (sym (c .before .before .mask-at .ensures)) ∙ sym (c .before .outside .ensures) ∙ c .if2 .taken in
     rw (sym (c .before .before .before .before .bad-offset .ensures) ∙ c .before .before .before .if1 .left, far)
-
-mirror-requires : tie.Need-mirror-requires
-mirror-requires c κs = search needs
 
 returns-3 : tie.Need-returns-3
 unfolding mirrorUpdateOf
@@ -40,10 +28,10 @@ pub mirror-update-spec : {M : Type 1} → statement M
 mirror-update-spec =
     tie.close
     (tie.spec
-    bad-offset-requires
+    (λ c κs. search needs)
     returns
-    mask-at-requires
-    outside-requires
+    (λ c κs. search needs)
+    (λ c κs. search needs)
     returns-2
-    mirror-requires
+    (λ c κs. search needs)
     returns-3)

@@ -5,12 +5,9 @@ use borrow.Author.Needs.{needs}
 use Rattle.window.proofs.outside.Statement.{statement}
 use Rattle.window.proofs.outside.Tie as tie
 
-blend32-requires : tie.Need-blend32-requires
-blend32-requires c κs = search needs
-
 returns : tie.Need-returns
 unfolding beyond
 returns c = let a = c .before .args in rw (c .blend32 .ensures) (some-outside 32 (a .mask) (a .m))
 
 pub outside-spec : {M : Type 1} → statement M
-outside-spec = tie.close (tie.spec blend32-requires returns)
+outside-spec = tie.close (tie.spec (λ c κs. search needs) returns)

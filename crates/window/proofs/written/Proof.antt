@@ -5,15 +5,9 @@ use borrow.Author.Needs.{needs}
 use Rattle.window.proofs.written.Statement.{statement}
 use Rattle.window.proofs.written.Tie as tie
 
-acknowledge-requires : tie.Need-acknowledge-requires
-acknowledge-requires c κs = search needs
-
 returns : tie.Need-returns
 unfolding windowWritten
 returns c = search (tests, c .acknowledge .ensures)
-
-request-requires : tie.Need-request-requires
-request-requires c κs = search needs
 
 returns-2 : tie.Need-returns-2
 unfolding windowWritten
@@ -25,4 +19,4 @@ returns-3 c = search tests
 
 pub written-spec : {M : Type 1} → statement M
 written-spec =
-    tie.close (tie.spec acknowledge-requires returns request-requires returns-2 returns-3)
+    tie.close (tie.spec (λ c κs. search needs) returns (λ c κs. search needs) returns-2 returns-3)
