@@ -20,12 +20,16 @@
 //! - `trace`: turns a recorded port trace into console lines;
 //! - `compare`: runs another program on the same input and compares;
 //! - `compare-sheets`: the same for two programs that take register sheets;
-//! - `sentences`: holds what those two say on standard error to README's words;
-//! - `one-by-one`: gives a program lines that it has to read one by one.
+//! - `sentences`: holds what those two say on standard error to the words of
+//!   docs/SHEETS.md;
+//! - `one-by-one`: gives a program lines that it has to read one by one;
+//! - `board`: the log of a board that was given console lines, faithful or with
+//!   a fault.
 
 #![forbid(unsafe_code)]
 
 pub mod access;
+pub mod board;
 pub mod child;
 pub mod comparison;
 pub mod damage;

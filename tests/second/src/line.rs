@@ -303,7 +303,7 @@ pub fn answer(twin: &mut Twin, line: &[u8], mode: Mode) -> Answer {
 }
 
 /// Carries out a command on the twin.
-fn perform(twin: &mut Twin, command: Command) -> Answer {
+pub fn perform(twin: &mut Twin, command: Command) -> Answer {
     match command {
         Command::Write {
             offset,

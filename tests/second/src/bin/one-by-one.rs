@@ -170,7 +170,7 @@ fn check_answers(
     }
 }
 
-/// The bytes in the form of `lspci -n -xxx`, as README shows it.
+/// The bytes in the form of `lspci -n -xxx`, as docs/CONSOLE.md shows it.
 fn dump(bytes: &[u8; BYTES]) -> String {
     let [vendor, device, class] =
         [0, 2, 0x0A].map(|at| u16::from_le_bytes([bytes[at], bytes[at + 1]]));

@@ -1,5 +1,5 @@
 //! Holds what two programs that take register sheets say on standard error to
-//! README's sentences, word for word.
+//! the sentences of docs/SHEETS.md, word for word.
 //!
 //! `sentences PLAYER SHOW`: a sheet for each thing that can be wrong with one,
 //! and calls that name no sheet. In the sheets no two entries have the same
