@@ -1,4 +1,5 @@
 """One lock through a log: when it was closed, what was tried on it, what it was held through, and the verdict."""
+from door.registers import bits_text
 
 PASSED, FAILED, NOT_TESTED, NOT_MODELLED = "passed", "failed", "not tested", "not modelled"
 
@@ -89,8 +90,8 @@ class LockHistory:
         self.reopened = False  # by a platform reset
         self.closings = self.attempts = self.resets = self.reads = self.dropped = 0
         self.waiting_attempts = self.waiting_resets = 0  # since the whole field was last read
-        self.unread = self.unseen = 0  # its bits that were not read since the last of those, and since it was closed
-        self.tested = False
+        self.unread = 0  # its bits that were not read since the last of those
+        self.unseen = lock.mask  # those that were never read while it was closed
         self.failures = {"closed": 0, "open": 0, "busy": 0}
         self.failed_at = {}
         self.events, self.more = [], 0
@@ -118,7 +119,7 @@ class LockHistory:
             self.waiting_attempts += 1
             self.note("tried", mark.line)
             return False
-        self.closed, self.unseen = mark, self.mask
+        self.closed = mark
         self.closed_at = self.closed_at or mark.line
         self.closings += 1
         self.shut.start(mark.line)
@@ -148,7 +149,7 @@ class LockHistory:
         self.shut.end(mark.line)
         self.note("opened", mark.line)
         self.closed, self.reopened = None, True
-        self.unread = self.unseen = self.waiting_attempts = self.waiting_resets = 0
+        self.unread = self.waiting_attempts = self.waiting_resets = 0
 
     def agreed(self, bits, mark):
         """A read in which these bits of it agreed. What came before counts as held where the whole field was read since."""
@@ -159,7 +160,6 @@ class LockHistory:
         if self.unread or self.unseen:
             self.unread &= ~bits
             self.unseen &= ~bits
-            self.tested = self.tested or not self.unseen
             if not self.unread:
                 self.attempts += self.waiting_attempts
                 self.resets += self.waiting_resets
@@ -179,7 +179,7 @@ class LockHistory:
         """One of the four words."""
         if self.failed_at:
             return FAILED
-        return PASSED if self.tested else NOT_TESTED
+        return PASSED if self.reads else NOT_TESTED
 
     @property
     def why(self):
@@ -202,7 +202,8 @@ class LockHistory:
         said = "closed at line %d%s, held through %s and %s, %s" % (
             self.closed_at, self._again(), count(self.resets, "reset"), count(self.attempts, "attempt"), agreeing(self.reads))
         left = [count(number, word) for number, word in ((self.waiting_resets, "reset"), (self.waiting_attempts, "attempt")) if number]
-        return said + ("; %s after the last read of it" % " and ".join(left) if left else "")
+        said += "; %s after the last read of %s" % (" and ".join(left), "all of it" if self.unseen else "it") if left else ""
+        return said + ("; bits %s were never read after that" % bits_text(self.unseen) if self.unseen else "")
 
     def _again(self):
         return "" if self.closings == 1 else " and once again" if self.closings == 2 else " and %s again" % count(self.closings - 1, "time")
@@ -210,6 +211,4 @@ class LockHistory:
     def _why_not_tested(self):
         if not self.closings:
             return "never written" + (", but for %s" % count(self.dropped, "dropped write") if self.dropped else "")
-        if self.reads:
-            return "closed at line %d%s, never read as a whole after that" % (self.closed_at, self._again())
         return "closed at line %d%s, never read after that" % (self.closed_at, self._again())

@@ -5,6 +5,8 @@ import sys
 
 from common import TOP, Test, run, text_of, tool
 
+from door import proved
+
 BREAK = [sys.executable, "-B", os.path.join(TOP, "tools", "break")]
 breaking, held = tool("break"), tool("held")
 
@@ -41,6 +43,10 @@ class Edits(Test):
                     text = text_of(os.path.join("crates", crate, file))
                     self.assertEqual(1, text.count(old), f"{crate}/{what}")
                     self.assertNotEqual(old, new)
+
+    def test_what_a_crate_stands_on(self):
+        for crate in os.listdir(os.path.join(TOP, "crates")):
+            self.assertEqual(set(proved.stands_on(crate)) - {crate}, set(breaking.dependencies(crate)), crate)
 
     def test_only_the_named_one_is_made(self):
         # twin's first.edit joins five; the copy is below target/break of a made repository

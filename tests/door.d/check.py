@@ -223,9 +223,13 @@ class Verdicts(Log):
         whole = self.lock(log + "R 2C 1 = 34\nR 2C 2 = 1200\n", "SVID2")
         self.assertEqual((1, 1), (whole["attempts"], whole["resets"]))
 
-    def test_half_read_is_not_tested(self):
-        self.assertEqual("not tested", self.lock("W 2C 3 00001234\nR 2C 1 = 34\n", "SVID2")["verdict"])
-        self.assertEqual("passed", self.lock("W 2C 3 00001234\nR 2C 1 = 34\nR 2C 2 = 1200\n", "SVID2")["verdict"])
+    def test_half_read_is_said(self):
+        half = self.lock("W 2C 3 00001234\nR 2C 1 = 34\n", "SVID2")
+        self.assertEqual("passed", half["verdict"])
+        self.assertIn("bits 15:8 were never read after that", half["why"])
+        whole = self.lock("W 2C 3 00001234\nR 2C 1 = 34\nR 2C 2 = 1200\n", "SVID2")
+        self.assertEqual("passed", whole["verdict"])
+        self.assertNotIn("never read", whole["why"])
 
     def test_closed_again(self):
         lock = self.lock("W 2C 3 00001234\nR 2C 3 = 1234\nP\nR 2C 3 = 0\nW 2C 3 00005678\nR 2C 3 = 5678\n", "SVID2")

@@ -19,6 +19,10 @@ TWIN = [sys.executable, os.path.join(TOP, "twin")]
 SECOND = os.path.join(TOP, "tests", "second", "target", "release")
 LIMIT = 60  # seconds after which a run counts as hanging
 
+# programs are run as a user has them: an output without a buffer would tell of a full disk sooner than one with it
+for name in [name for name in os.environ if name.startswith("PYTHON")]:
+    del os.environ[name]
+
 
 def text_of(path):
     """A file of the repository."""

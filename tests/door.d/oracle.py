@@ -156,20 +156,19 @@ class Naive:
     def lock(self, name):
         """A lock's verdict, and what it was held through: what was followed by reads of the whole field."""
         attempts = resets = tried = ended = reads = 0
-        tested, closed, unread, unseen = False, False, set(), set()
+        closed, unseen = False, set()
         for event in self.past[name]:
             if event == "closed":
-                closed, unread, unseen = True, set(FIELDS[name]), set(FIELDS[name])
+                closed, unseen = True, set(FIELDS[name])
             elif event == "P":
                 closed, tried, ended = False, 0, 0
             elif event == "tried" or event == "E" and closed:
                 tried, ended, unseen = tried + (event == "tried"), ended + (event == "E"), set(FIELDS[name])
             elif isinstance(event, set):
-                reads, unread, unseen = reads + 1, unread - event, unseen - event
-                tested = tested or not unread
+                reads, unseen = reads + 1, unseen - event
                 if not unseen:
                     attempts, resets, tried, ended = attempts + tried, resets + ended, 0, 0
-        verdict = "failed" if self.failed[name] else "passed" if tested else "not tested"
+        verdict = "failed" if self.failed[name] else "passed" if reads else "not tested"
         return verdict, attempts, resets, reads
 
 
