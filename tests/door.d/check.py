@@ -461,6 +461,8 @@ class ManyBoards(Log):
         for name in ("good.log", "broken.log", "none.session"):
             self.assertIn(name, done.out)
         self.assertNotIn("notes.txt", done.out)
+        names = [line.split()[0] for line in done.lines if line.startswith(self.room)]
+        self.assertEqual((3, sorted(names)), (len(names), names))
         row = next(line for line in done.lines if "broken.log" in line)
         self.assertRegex(row, r"FAILED|failed")
 

@@ -244,10 +244,11 @@ class Programs(Door):
             ("a complaint", "echo trouble >&2; for i in 1 2 3; do echo OK 01528086; done; cat >/dev/null"),
             ("nonsense", "for i in 1 2 3; do echo hello; done; cat >/dev/null"),
             ("bytes", "head -c 1000 /dev/zero"),
+            ("another answer than is followed", "for i in 1 2 3; do echo NO 5; done; cat >/dev/null"),
         ):
             with self.subTest(name):
                 self.setUp()
                 words, environment = self.door(script)
-                for command in ("check", "run") if name not in ("nonsense", "bytes") else ("check",):
+                for command in ("check", "run") if name not in ("nonsense", "bytes", "another answer than is followed") else ("check",):
                     done = run(words + [command, log], env=environment)
                     self.refused(done, "console")
