@@ -55,6 +55,7 @@ APERTURE = _apertures()
 LEAST = min(APERTURE.values())
 
 
+@functools.lru_cache(None)
 def place(cell):
     """The name of the register that has a cell, and the number of the cell's bit 0 there."""
     if cell >= LATCH:

@@ -65,14 +65,15 @@ class Differ:
         found = {}
         changed = {place(cell)[0] for cell in deed.cells if not self.seen.same(cell, differs >> 8 * (cell - deed.cell) & 0xFF)}
         for cell in deed.cells:
-            shift, name, known = 8 * (cell - deed.cell), place(cell)[0], {}
+            shift, name, shared = 8 * (cell - deed.cell), place(cell)[0], {}
             for bit in BITS[differs >> shift & 0xFF]:
-                past = KIND[cell][bit], (cell, bit) in self.history.given and bit
-                if past not in known:
-                    known[past] = self.history.kind(cell, bit), self.history.decided(cell, bit)
-                alike = Alike(name, *known[past], notes >> shift + bit & 1, blamed >> shift + bit & 1, name not in changed)
+                past = KIND[cell][bit], (cell, bit) in self.history.given and bit, notes >> shift + bit & 1, blamed >> shift + bit & 1
+                shared[past] = shared.get(past, 0) | 1 << bit
+            for (_, _, noted, blame), bits in shared.items():
+                first = BITS[bits][0]
+                alike = Alike(name, self.history.kind(cell, first), self.history.decided(cell, first), noted, blame, name not in changed)
                 masks = found.setdefault(alike, {})
-                masks[cell] = masks.get(cell, 0) | 1 << bit
+                masks[cell] = masks.get(cell, 0) | bits
         return found.items()
 
     def _part(self, deed, alike, masks, board):
@@ -102,7 +103,7 @@ class Differ:
 
     def _agreed(self, masks):
         """The last read in which all of these bits had agreed."""
-        marks = [self.seen.last_agreed(cell, bit) for cell, bits in masks.items() for bit in BITS[bits]]
+        marks = [mark for cell, bits in masks.items() for mark in self.seen.agreements(cell, BITS[bits])]
         return min(marks) if None not in marks else None
 
     # ---- what came since a decision, as marks and phrases

@@ -36,6 +36,10 @@ class Reads:
             return self.agreed[cell]
         return apart.agreed[bit] if apart.differs >> bit & 1 else apart.last
 
+    def agreements(self, cell, bits):
+        """The last reads in which some bits of a byte agreed, or None where one did not yet."""
+        return [self.last_agreed(cell, bit) for bit in bits] if cell in self.apart else (self.agreed[cell],)
+
     def same(self, cell, differs):
         """Whether a byte differs in exactly these bits, none of them for the first time."""
         apart = self.apart.get(cell)
