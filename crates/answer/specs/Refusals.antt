@@ -1,14 +1,14 @@
--- The paper's table 'Refusal numbers', those of the change requests, and what an entry gives back beside a number.
+-- The paper's table 'Refusal numbers', those of the change requests, and what an entry says.
 -- Which definition decides each:
 --    1 LENGTH           walkOf (walk, Walk)
 --    2 WIDTH            badWidth (rules, Ports)
 --    3 NOT-OURS         notOurs (rules, Ports)
 --    4 OTHER-FUNCTION   otherFunction (rules, Ports)
 --    5 OFFSET           badOffset (rules, Access); of a host update 255 <? o (rules, Host)
---    6 LANES            badLanes (rules, Access)
+--    6 LANES            badLanes, admit (rules, Access)
 --    7 NOT-HOST         notHost (rules, Host); in the window beyond (rules, Window); of a sheet's device outside (rules, Plain)
 --    8 NO-RANGE         probeOf, ranged (probe, Probe)
---    9 LINE             commandOf (forms, Line), callOf (call_forms, Call); of the door doorOf (deeds, Door)
+--    9 LINE             readBy (line_forms, Read), by the rows that a program takes (line_table, sheet_lines); of the door askedAt (door_table, Door)
 --   10 POINTER          stops (walk, Walk)
 --   11 ENDLESS          walkFrom (walk, Walk)
 --   12 SHEET-LENGTH, 13 SHEET-CONTENTS, 14 SHEET-BODY    checkOf, sheetNo (sheet_rules, Check)
@@ -64,16 +64,24 @@ SHEET-BODY = 14
 abbrev pub WINDOW-OFFSET : ℕ
 WINDOW-OFFSET = 16
 
--- ---- a number and a value
+-- ---- what is said
 
--- the refusal's number, or 0 where the entry accepts; beside it the value
-pub record Reply : Type 0 where
-  pub number : ℕ
-  pub value : ℕ
+pub data Reply : Type 0 where
+  -- accepted, with no value
+  fine : Reply
+  -- accepted, with a value
+  ok : ℕ → Reply
+  -- refused
+  no : ℕ → Reply
 
-abbrev pub ok : ℕ → Reply
-ok v = record { number = 0; value = v }
+-- the refusal's number, or 0 where the entry accepts
+abbrev pub number : Reply → ℕ
+number fine = 0
+number (ok v) = 0
+number (no n) = n
 
--- every refusal returns zero beside its number
-abbrev pub no : ℕ → Reply
-no n = record { number = n; value = 0 }
+-- the value; every refusal returns zero beside its number
+abbrev pub value : Reply → ℕ
+value fine = 0
+value (ok v) = v
+value (no n) = 0

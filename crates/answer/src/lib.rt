@@ -1,33 +1,51 @@
-// The paper's refusal numbers, for code that says them; specs/Refusals.antt has them for the definitions.
+// The paper's refusals, what an entry answers, and the number of a refusal. A refusal more is a line here, one in `number` and one in specs/Said.antt.
+ghost use mathlib.Core.Path.{_≡_};
+ghost use Rattle.answer.specs.Said.{numberOf};
 
-pub const LENGTH: u32 = 1;
+pub enum Refusal {
+    Length,
+    Width,
+    NotOurs,
+    OtherFunction,
+    Offset,
+    Lanes,
+    NotHost,
+    NoRange,
+    Line,
+    Pointer,
+    Endless,
+    SheetLength,
+    SheetContents,
+    SheetBody,
+    WindowOffset,
+}
 
-pub const WIDTH: u32 = 2;
+// Accepted; accepted with a value; refused.
+pub enum Answer {
+    Done,
+    Value(u32),
+    No(Refusal),
+}
 
-pub const NOT_OURS: u32 = 3;
-
-pub const OTHER_FUNCTION: u32 = 4;
-
-pub const OFFSET: u32 = 5;
-
-pub const LANES: u32 = 6;
-
-pub const NOT_HOST: u32 = 7;
-
-pub const NO_RANGE: u32 = 8;
-
-pub const LINE: u32 = 9;
-
-pub const POINTER: u32 = 10;
-
-pub const ENDLESS: u32 = 11;
-
-// A register sheet's.
-pub const SHEET_LENGTH: u32 = 12;
-
-pub const SHEET_CONTENTS: u32 = 13;
-
-pub const SHEET_BODY: u32 = 14;
-
-// The window's.
-pub const WINDOW_OFFSET: u32 = 16;
+// The paper's number.
+pub fn number(r: Refusal) -> u32
+    ensures { λ n. ⌜ n ≡ numberOf r ⌝ }
+{
+    match r {
+        Refusal::Length => 1,
+        Refusal::Width => 2,
+        Refusal::NotOurs => 3,
+        Refusal::OtherFunction => 4,
+        Refusal::Offset => 5,
+        Refusal::Lanes => 6,
+        Refusal::NotHost => 7,
+        Refusal::NoRange => 8,
+        Refusal::Line => 9,
+        Refusal::Pointer => 10,
+        Refusal::Endless => 11,
+        Refusal::SheetLength => 12,
+        Refusal::SheetContents => 13,
+        Refusal::SheetBody => 14,
+        Refusal::WindowOffset => 16,
+    }
+}

@@ -1,8 +1,8 @@
 // The console: standard input in blocks, the answers of each block in one write.
 
 fn main() {
-    let mut buf = hear::in_buffer();
-    let mut out = hear::out_buffer();
+    let mut buf = console_session::in_buffer();
+    let mut out = console_session::out_buffer();
     let s = twin::fresh();
-    hear::listen(s, true, &mut buf, &mut out);
+    console_session::listen(s, true, &mut buf, &mut out);
 }

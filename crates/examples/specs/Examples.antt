@@ -2,9 +2,11 @@
 use mathlib.Core.Path.{_≡_}
 use mathlib.Core.List.{List, [], _∷_}
 use Prim.Native.Nat.{ℕ}
-use Rattle.answer.specs.Refusals.{Reply, ok}
+use Rattle.answer.specs.Refusals.{Reply, fine, ok}
 use Rattle.rules.specs.declared.State.{State}
-use Rattle.rules.specs.Events.{Event, read, write, end-signal, happens}
+use Rattle.rules.specs.declared.Event.{Event}
+use Rattle.rules.specs.declared.Event.the-variants.{Read, Write, EndSignal}
+use Rattle.rules.specs.Events.{happens}
 use Rattle.rules.specs.Fresh.{freshOf}
 use Rattle.probe.specs.Probe.{Reply as Probed, memory64, range, probeOf}
 
@@ -21,15 +23,15 @@ e gives v = record { event = e; reply = ok v }
 
 -- a guest write is accepted: offset, lanes, value
 abbrev pub W : ℕ → ℕ → ℕ → Step
-W o l v = write o l v gives 0
+W o l v = record { event = Write o l v; reply = fine }
 
 -- the end signal
 abbrev pub E : Step
-E = end-signal gives 0
+E = record { event = EndSignal; reply = fine }
 
 -- offset, lanes
 abbrev pub R : ℕ → ℕ → Event
-R o l = read o l
+R o l = Read o l
 
 pub data Example : Type 0 where
   -- from a fresh state

@@ -1,13 +1,14 @@
 // The state lent as one record, and updated where it lies: what a bench in C, or in any language that calls C, links.
 ghost use mathlib.Core.Path.{_≡_};
-ghost use Rattle.answer.specs.Refusals.{no};
 ghost use Rattle.rules.specs.Guest.{writeOf};
 ghost use Rattle.rules.specs.Read.{readOf};
 ghost use Rattle.rules.specs.Fresh.{freshOf};
 ghost use Rattle.probe.specs.Probe.{probeOf};
 ghost use Rattle.walk.specs.Walk.{walkOf};
-ghost use Rattle.tells.specs.Told.{heard, leaves, probeReply, walkReply};
-ghost use Rattle.deeds.specs.Door.{doorOf};
+ghost use Rattle.asked.specs.Asked.{answer, range, item};
+ghost use Rattle.door_told.specs.Heard.{heard, heardOf};
+ghost use Rattle.door_step.specs.Door.{outside, doorOf};
+ghost use Rattle.door_step.specs.Numbered.{leaves, numbered};
 use rules::State;
 
 // A platform reset; also what makes a record the fresh state.
@@ -22,10 +23,10 @@ pub extern "C" fn twin_platform_reset(s: &mut State)
 // The record's bytes are lent on to the leaf, so nothing is copied.
 #[no_mangle]
 pub extern "C" fn twin_write(s: &mut State, offset: u32, lanes: u32, value: u32) -> u32
-    ensures { λ r. ⌜ leaves (no r) (now (s .exit)) ≡ writeOf (now (s .entry)) offset lanes value ⌝ }
+    ensures { λ r. ⌜ leaves r (now (s .exit)) ≡ numbered (writeOf (now (s .entry)) offset lanes value) ⌝ }
 {
     let c = s.flags;
-    let w = deeds::put(&mut s.bytes, c, offset, lanes, value);
+    let w = door_step::put(&mut s.bytes, c, offset, lanes, value);
     s.flags = w.flags;
     w.number
 }
@@ -33,9 +34,9 @@ pub extern "C" fn twin_write(s: &mut State, offset: u32, lanes: u32, value: u32)
 // The same above the by-value step: the record is copied in, and its state out.
 #[no_mangle]
 pub extern "C" fn twin_write_by_value(s: &mut State, offset: u32, lanes: u32, value: u32) -> u32
-    ensures { λ number. ⌜ leaves (no number) (now (s .exit)) ≡ writeOf (now (s .entry)) offset lanes value ⌝ }
+    ensures { λ number. ⌜ leaves number (now (s .exit)) ≡ numbered (writeOf (now (s .entry)) offset lanes value) ⌝ }
 {
-    let w = deeds::write(*s, offset, lanes, value);
+    let w = door_step::write(*s, offset, lanes, value);
     *s = w.state;
     w.number
 }
@@ -43,17 +44,17 @@ pub extern "C" fn twin_write_by_value(s: &mut State, offset: u32, lanes: u32, va
 // A guest read.
 #[no_mangle]
 pub extern "C" fn twin_read(s: &State, offset: u32, lanes: u32) -> u64
-    ensures { λ r. ⌜ heard r ≡ readOf (now (s .entry)) offset lanes ⌝ }
+    ensures { λ r. ⌜ heard r ≡ heardOf (answer (readOf (now (s .entry)) offset lanes)) ⌝ }
 {
-    tells::read(*s, offset, lanes)
+    door_told::read(*s, offset, lanes)
 }
 
 // The operation of number `op`.
 #[no_mangle]
 pub extern "C" fn twin_do(s: &mut State, op: u32, a: u32, b: u32, c: u32) -> u64
-    ensures { λ r. ⌜ leaves (heard r) (now (s .exit)) ≡ doorOf (now (s .entry)) op a b c ⌝ }
+    ensures { λ r. ⌜ outside (heard r) (now (s .exit)) ≡ doorOf (now (s .entry)) op a b c ⌝ }
 {
-    let d = deeds::operate(*s, op, a, b, c);
+    let d = door_step::operate(*s, op, a, b, c);
     *s = d.state;
     d.heard
 }
@@ -61,15 +62,15 @@ pub extern "C" fn twin_do(s: &mut State, op: u32, a: u32, b: u32, c: u32) -> u64
 // A size probe.
 #[no_mangle]
 pub extern "C" fn twin_probe(low: u32, high: u32) -> u64
-    ensures { λ r. ⌜ heard r ≡ probeReply (probeOf low high) ⌝ }
+    ensures { λ r. ⌜ heard r ≡ heardOf (range (probeOf low high)) ⌝ }
 {
-    tells::probe(low, high)
+    door_told::probe(low, high)
 }
 
 // A capability walk over any bytes.
 #[no_mangle]
 pub extern "C" fn twin_walk(bytes: &[u8], wanted: u8) -> u64
-    ensures { λ r. ⌜ heard r ≡ walkReply (walkOf (now (bytes .entry)) wanted) ⌝ }
+    ensures { λ r. ⌜ heard r ≡ heardOf (item (walkOf (now (bytes .entry)) wanted)) ⌝ }
 {
-    tells::walk(bytes, wanted)
+    door_told::walk(bytes, wanted)
 }

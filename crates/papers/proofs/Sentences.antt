@@ -7,7 +7,7 @@ use lib.Dec.{T, eqb→eq}
 use Rattle.bits.specs.Bits.{numberOf}
 use Rattle.bits.specs.Choice.{_and_, _is_}
 use Rattle.bits.proofs.Below.{both-left, both-right}
-use Rattle.answer.specs.Refusals.{Reply}
+use Rattle.answer.proofs.Same.{sameReply, same-reply}
 use Rattle.map.specs.Map.{rows, rowAt, classOf, defaults}
 use Rattle.rules.specs.declared.State.{State}
 use Rattle.rules.specs.Access.{enabled, byteFor}
@@ -23,17 +23,6 @@ use Rattle.rules.specs.Events.{windowHappens, happens}
 use Rattle.papers.specs.Sentences.{Step, says, memory, port, sentences, Answered, Each}
 
 -- ---- answers, told apart by numbers
-
-abbrev sameReply : Reply → Reply → Bool
-sameReply a b = a .number is b .number and a .value is b .value
-
-same-reply : (a b : Reply) → T (sameReply a b) → a ≡ b
-same-reply a b t =
-    let p = a .number is b .number in
-    let q = a .value is b .value in
-    let number : a .number ≡ b .number = eqb→eq _ _ (both-left p q t) in
-    let value : a .value ≡ b .value = eqb→eq _ _ (both-right p q t) in
-    λ i. record { number = number i; value = value i }
 
 abbrev sameWindow : Window → Window → Bool
 sameWindow translation translation = true

@@ -3,10 +3,13 @@
 use mathlib.Core.Path.{_≡_}
 use mathlib.Core.List.{List, [], _∷_}
 use Prim.Native.Nat.{ℕ}
-use Rattle.answer.specs.Refusals.{Reply, ok, no}
+use Rattle.answer.specs.Refusals.{Reply, fine, ok, no}
 use Rattle.rules.specs.declared.State.{State}
 use Rattle.rules.specs.Claims.{Claimed, unclaimed, claimed, translation, aperture, io, memoryClaimOf, ioClaimOf}
-use Rattle.rules.specs.Events.{window-read, window-write, complete, fault, add-cycles, mirror-update, Event, read, write, port-read, port-write, host-update, end-signal, platform-reset, window, happens}
+use Rattle.rules.specs.declared.WindowEvent.the-variants.{WindowRead, WindowWrite, Complete, Fault, AddCycles, MirrorUpdate}
+use Rattle.rules.specs.declared.Event.{Event}
+use Rattle.rules.specs.declared.Event.the-variants.{Read, Write, PortRead, PortWrite, HostUpdate, EndSignal, PlatformReset, InWindow}
+use Rattle.rules.specs.Events.{happens}
 
 -- ---- how a row is written: the lines of a console, each with its answer
 
@@ -21,52 +24,55 @@ infix 70 _gives_ _refused_
 abbrev pub _gives_ : Event → ℕ → Step
 e gives v = says e (ok v)
 
+abbrev pub accepted : Event → Step
+accepted e = says e fine
+
 abbrev pub _refused_ : Event → ℕ → Step
 e refused n = says e (no n)
 
 -- offset, lanes
 abbrev pub R : ℕ → ℕ → Event
-R o l = read o l
+R o l = Read o l
 
 -- port, width
 abbrev pub I : ℕ → ℕ → Event
-I p w = port-read p w
+I p w = PortRead p w
 
 -- offset in the window, lanes
 abbrev pub U : ℕ → ℕ → Event
-U o l = window (window-read o l)
+U o l = InWindow (WindowRead o l)
 
 -- accepted: a guest write, a port write, a host update, a guest write in the window, and the host's changes there
 abbrev pub W : ℕ → ℕ → ℕ → Step
-W o l v = write o l v gives 0
+W o l v = accepted (Write o l v)
 
 abbrev pub O : ℕ → ℕ → ℕ → Step
-O p w v = port-write p w v gives 0
+O p w v = accepted (PortWrite p w v)
 
 abbrev pub H : ℕ → ℕ → ℕ → Step
-H o m v = host-update o m v gives 0
+H o m v = accepted (HostUpdate o m v)
 
 abbrev pub VW : ℕ → ℕ → ℕ → Step
-VW o l v = window (window-write o l v) gives 0
+VW o l v = accepted (InWindow (WindowWrite o l v))
 
 abbrev pub C : ℕ → Step
-C m = window (complete m) gives 0
+C m = accepted (InWindow (Complete m))
 
 abbrev pub F : ℕ → Step
-F v = window (fault v) gives 0
+F v = accepted (InWindow (Fault v))
 
 abbrev pub N : ℕ → Step
-N n = window (add-cycles n) gives 0
+N n = accepted (InWindow (AddCycles n))
 
 abbrev pub Y : ℕ → ℕ → ℕ → Step
-Y o m v = window (mirror-update o m v) gives 0
+Y o m v = accepted (InWindow (MirrorUpdate o m v))
 
 -- the end signal, the platform reset
 abbrev pub E : Step
-E = end-signal gives 0
+E = accepted EndSignal
 
 abbrev pub P : Step
-P = platform-reset gives 0
+P = accepted PlatformReset
 
 -- the write that starts a function reset
 abbrev pub A8 : Step
@@ -93,7 +99,7 @@ sentences =
     (W 0x2C 0x3 0x1234 ∷ W 0x2C 0xC 0x56780000 ∷ R 0x2C 0xF gives 0x56781234 ∷ []) ∷
     (W 0xE8 0x1 0x01 ∷ W 0xE8 0x2 0x8000 ∷ R 0xE8 0xF gives 0x00008001 ∷ []) ∷
     -- accepted: neither a refused write nor a read closes one
-    (write 0x2C 0x10 0 refused 6 ∷ R 0x2C 0xF gives 0 ∷ W 0x2C 0xF 0x12345678 ∷ R 0x2C 0xF gives 0x12345678 ∷ []) ∷
+    (Write 0x2C 0x10 0 refused 6 ∷ R 0x2C 0xF gives 0 ∷ W 0x2C 0xF 0x12345678 ∷ R 0x2C 0xF gives 0x12345678 ∷ []) ∷
     -- MSAC: a write whose bits 2:1 are 10 keeps the old 2:1 and stores 7:4; bits 3 and 0 are read-only
     (W 0x60 0x4 0x00F40000 ∷ R 0x60 0xF gives 0x00F20000 ∷ W 0x60 0x4 0x00FF0000 ∷ R 0x60 0xF gives 0x00F60000 ∷ []) ∷
     -- 00 makes no bit of GMADR read-only, 01 bit 27, 11 bits 28:27
@@ -137,11 +143,11 @@ sentences =
     (H 0x08 0x0F 0xFF ∷ R 0x08 0xF gives 0x0300000F ∷ H 0x08 0x01 0x00 ∷ R 0x08 0xF gives 0x0300000E ∷ H 0x00 0x00 0xFF ∷ R 0x00 0xF gives 0x01528086 ∷ []) ∷
     -- The port pair: the latch with bits 30:24 and 1:0 zero, by 4 bytes at CF8h
     (O 0xCF8 4 0xFFFFFFFF ∷ I 0xCF8 4 gives 0x80FFFFFC ∷ []) ∷
-    (port-write 0xCF8 2 0x1000 refused 3 ∷ port-write 0xCF8 1 0 refused 3 ∷ I 0xCF8 1 refused 3 ∷ I 0xCF8 4 gives 0 ∷ []) ∷
+    (PortWrite 0xCF8 2 0x1000 refused 3 ∷ PortWrite 0xCF8 1 0 refused 3 ∷ I 0xCF8 1 refused 3 ∷ I 0xCF8 4 gives 0 ∷ []) ∷
     -- CFCh <= port and port + width <= D00h
     (O 0xCF8 4 0x80001000 ∷ I 0xCFC 4 gives 0x01528086 ∷ I 0xCFF 1 gives 0x01 ∷ I 0xCFE 2 gives 0x0152 ∷ I 0xCFF 2 refused 3 ∷ I 0xCFE 4 refused 3 ∷ I 0xCFB 1 refused 3 ∷ I 0xD00 1 refused 3 ∷ []) ∷
     -- latch bit 31 set, bus 0, device 2, function 0
-    (O 0xCF8 4 0x00001000 ∷ I 0xCFC 4 refused 3 ∷ port-write 0xCFC 4 0 refused 3 ∷ []) ∷
+    (O 0xCF8 4 0x00001000 ∷ I 0xCFC 4 refused 3 ∷ PortWrite 0xCFC 4 0 refused 3 ∷ []) ∷
     (O 0xCF8 4 0x80011000 ∷ I 0xCFC 4 refused 4 ∷ O 0xCF8 4 0x80801000 ∷ I 0xCFC 4 refused 4 ∷ []) ∷
     (O 0xCF8 4 0x80000000 ∷ I 0xCFC 4 refused 4 ∷ O 0xCF8 4 0x80001800 ∷ I 0xCFC 4 refused 4 ∷ O 0xCF8 4 0x80003000 ∷ I 0xCFC 4 refused 4 ∷ O 0xCF8 4 0x80009000 ∷ I 0xCFC 4 refused 4 ∷ []) ∷
     (O 0xCF8 4 0x80001100 ∷ I 0xCFC 4 refused 4 ∷ O 0xCF8 4 0x80001200 ∷ I 0xCFC 4 refused 4 ∷ O 0xCF8 4 0x80001400 ∷ I 0xCFC 4 refused 4 ∷ []) ∷
@@ -167,11 +173,11 @@ sentences =
     -- If both memory windows hold it, GTTMMADR answers
     (W 0x04 0x1 2 ∷ memory 0x3FFFFF (claimed translation 0x3FFFFF) ∷ memory 0x400000 (claimed aperture 0x400000) ∷ []) ∷
     -- Refusals: direct 5 above 255 or for no multiple of 4, then 6 above 15
-    (R 0xFC 0xF gives 0 ∷ R 0x100 0xF refused 5 ∷ R 0x01 0xF refused 5 ∷ R 0x02 0x10 refused 5 ∷ R 0x00 0x10 refused 6 ∷ write 0x102 0x10 0 refused 5 ∷ write 0x00 0x10 0 refused 6 ∷ []) ∷
+    (R 0xFC 0xF gives 0 ∷ R 0x100 0xF refused 5 ∷ R 0x01 0xF refused 5 ∷ R 0x02 0x10 refused 5 ∷ R 0x00 0x10 refused 6 ∷ Write 0x102 0x10 0 refused 5 ∷ Write 0x00 0x10 0 refused 6 ∷ []) ∷
     -- host 5 above 255, then 7 for a bit outside the host mask
-    (H 0x0B 0xFF 0x03 ∷ host-update 0x100 0x00 0 refused 5 ∷ host-update 0x100 0x01 0 refused 5 ∷ host-update 0x09 0x01 0 refused 7 ∷ host-update 0x06 0x18 0 refused 7 ∷ H 0x06 0x08 0x08 ∷ []) ∷
+    (H 0x0B 0xFF 0x03 ∷ HostUpdate 0x100 0x00 0 refused 5 ∷ HostUpdate 0x100 0x01 0 refused 5 ∷ HostUpdate 0x09 0x01 0 refused 7 ∷ HostUpdate 0x06 0x18 0 refused 7 ∷ H 0x06 0x08 0x08 ∷ []) ∷
     -- ports 2 for a width that is not 1, 2 or 4, then 3, then 4
-    (I 0x0000 3 refused 2 ∷ I 0xCFC 0 refused 2 ∷ I 0x0000 4 refused 3 ∷ O 0xCF8 4 0x80011000 ∷ I 0xCFE 4 refused 3 ∷ I 0xCFC 3 refused 2 ∷ I 0xCFC 2 refused 4 ∷ port-write 0xCFC 4 0 refused 4 ∷ []) ∷
+    (I 0x0000 3 refused 2 ∷ I 0xCFC 0 refused 2 ∷ I 0x0000 4 refused 3 ∷ O 0xCF8 4 0x80011000 ∷ I 0xCFE 4 refused 3 ∷ I 0xCFC 3 refused 2 ∷ I 0xCFC 2 refused 4 ∷ PortWrite 0xCFC 4 0 refused 4 ∷ []) ∷
     -- W-202. While busy reads give FF in enabled lanes, writes are dropped and answered as accepted
     (W 0x04 0x1 7 ∷ A8 ∷ R 0x04 0xF gives 0xFFFFFFFF ∷ R 0xA8 0x1 gives 0xFFFFFFFF ∷ W 0xFC 0xF 0x12345678 ∷ W 0x2C 0xF 0x12345678 ∷ E ∷ R 0xFC 0xF gives 0 ∷ R 0x2C 0xF gives 0 ∷ R 0xA8 0xF gives 0 ∷ W 0x2C 0xF 0x9ABCDEF0 ∷ R 0x2C 0xF gives 0x9ABCDEF0 ∷ []) ∷
     (O 0xCF8 4 0x800010A8 ∷ O 0xCFC 1 1 ∷ I 0xCFC 4 gives 0xFFFFFFFF ∷ I 0xCFC 1 gives 0xFF ∷ O 0xCFC 1 0 ∷ I 0xCFD 2 gives 0xFFFF ∷ E ∷ I 0xCFC 1 gives 0 ∷ []) ∷
@@ -183,21 +189,21 @@ sentences =
     (A8 ∷ P ∷ R 0x00 0xF gives 0x01528086 ∷ []) ∷
     (W 0x04 0x1 7 ∷ E ∷ R 0x04 0xF gives 0x00900007 ∷ []) ∷
     -- refusals come first as before
-    (A8 ∷ R 0x02 0xF refused 5 ∷ R 0x00 0x10 refused 6 ∷ write 0x01 0xF 0 refused 5 ∷ write 0x00 0x10 0 refused 6 ∷ I 0xCFC 3 refused 2 ∷ I 0xCFC 4 refused 3 ∷ host-update 0x00 0x01 0 refused 7 ∷ []) ∷
+    (A8 ∷ R 0x02 0xF refused 5 ∷ R 0x00 0x10 refused 6 ∷ Write 0x01 0xF 0 refused 5 ∷ Write 0x00 0x10 0 refused 6 ∷ I 0xCFC 3 refused 2 ∷ I 0xCFC 4 refused 3 ∷ HostUpdate 0x00 0x01 0 refused 7 ∷ []) ∷
     -- W-207. ASSRREQ: each bit is set only where its mask bit is 1 and both lanes are enabled; the mask reads 0; there are four
     (VW 0x0810C 0xF 0x00000001 ∷ U 0x0810C 0xF gives 0 ∷ VW 0x0810C 0xB 0x00020002 ∷ U 0x0810C 0xF gives 0 ∷ VW 0x0810C 0xE 0x00020002 ∷ U 0x0810C 0xF gives 0 ∷ VW 0x0810C 0xF 0xFFFF0006 ∷ U 0x0810C 0xF gives 6 ∷ VW 0x0810C 0xF 0xFFFF0008 ∷ U 0x0810C 0xF gives 0xE ∷ VW 0x0810C 0xF 0xFFFFFFF0 ∷ U 0x0810C 0xF gives 0xE ∷ []) ∷
     -- the host clears bits on completion; bits outside F give 7
-    (VW 0x0810C 0x5 0x000F000F ∷ C 0x6 ∷ U 0x0810C 0xF gives 9 ∷ window (complete 0x10) refused 7 ∷ U 0x0810C 0xF gives 9 ∷ []) ∷
+    (VW 0x0810C 0x5 0x000F000F ∷ C 0x6 ∷ U 0x0810C 0xF gives 9 ∷ InWindow (Complete 0x10) refused 7 ∷ U 0x0810C 0xF gives 9 ∷ []) ∷
     -- FAULT_REG: stored with valid set only while valid is 0; a later fault is lost, though accepted
-    (F 0x1152 ∷ U 0x04094 0xF gives 0x1153 ∷ F 0x4008 ∷ U 0x04094 0xF gives 0x1153 ∷ window (fault 0x1) refused 7 ∷ window (fault 0x8000) refused 7 ∷ []) ∷
+    (F 0x1152 ∷ U 0x04094 0xF gives 0x1153 ∷ F 0x4008 ∷ U 0x04094 0xF gives 0x1153 ∷ InWindow (Fault 0x1) refused 7 ∷ InWindow (Fault 0x8000) refused 7 ∷ []) ∷
     -- a write with lane 0 enabled and bit 0 zero clears it all; any other changes nothing
     (F 0x77FE ∷ VW 0x04094 0xF 0xFFFFFFFF ∷ VW 0x04094 0x1 1 ∷ VW 0x04094 0xE 0 ∷ VW 0x04094 0x0 0 ∷ U 0x04094 0xF gives 0x77FF ∷ VW 0x04094 0x1 0xFFFFFFFE ∷ U 0x04094 0xF gives 0 ∷ F 0x8 ∷ U 0x04094 0xF gives 9 ∷ []) ∷
     -- the host adds to the DRAM cycle sum, which wraps; read-only to the guest
     (N 0xFFFFFFFF ∷ U 0x138078 0xF gives 0xFFFFFFFF ∷ N 3 ∷ VW 0x138078 0xF 0x55 ∷ U 0x138078 0xF gives 2 ∷ []) ∷
     -- the mirrors and their masks, read-only to the guest
-    (Y 0x1080C0 0xFFF00001 0x9AB00001 ∷ Y 0x1080C0 0x00100000 0 ∷ VW 0x1080C0 0xF 0 ∷ U 0x1080C0 0xF gives 0x9AA00001 ∷ window (mirror-update 0x1080C0 0x2 0) refused 7 ∷ []) ∷
-    (Y 0x108080 0xFFF00001 0xFFFFFFFF ∷ U 0x108080 0xF gives 0xFFF00001 ∷ window (mirror-update 0x108080 0x80000 0) refused 7 ∷ []) ∷
-    (Y 0x108084 0x7F 0xFFFFFFFF ∷ U 0x108084 0xF gives 0x7F ∷ window (mirror-update 0x108084 0x80 0) refused 7 ∷ window (mirror-update 0x108088 0x1 0) refused 7 ∷ Y 0x108088 0 0xFF ∷ []) ∷
+    (Y 0x1080C0 0xFFF00001 0x9AB00001 ∷ Y 0x1080C0 0x00100000 0 ∷ VW 0x1080C0 0xF 0 ∷ U 0x1080C0 0xF gives 0x9AA00001 ∷ InWindow (MirrorUpdate 0x1080C0 0x2 0) refused 7 ∷ []) ∷
+    (Y 0x108080 0xFFF00001 0xFFFFFFFF ∷ U 0x108080 0xF gives 0xFFF00001 ∷ InWindow (MirrorUpdate 0x108080 0x80000 0) refused 7 ∷ []) ∷
+    (Y 0x108084 0x7F 0xFFFFFFFF ∷ U 0x108084 0xF gives 0x7F ∷ InWindow (MirrorUpdate 0x108084 0x80 0) refused 7 ∷ InWindow (MirrorUpdate 0x108088 0x1 0) refused 7 ∷ Y 0x108088 0 0xFF ∷ []) ∷
     -- any other aligned offset below 4 MB reads 0 and ignores writes
     (VW 0x3FFFFC 0xF 0xFFFFFFFF ∷ U 0x3FFFFC 0xF gives 0 ∷ VW 0 0xF 0xFFFFFFFF ∷ U 0 0xF gives 0 ∷ R 0x00 0xF gives 0x01528086 ∷ []) ∷
     -- a function reset leaves the window; while busy reads give ones, guest writes are dropped, the host's changes are not
@@ -208,7 +214,7 @@ sentences =
     -- a platform reset clears it
     (F 0x1152 ∷ N 7 ∷ Y 0x1080C0 1 1 ∷ VW 0x0810C 0xF 0x00010001 ∷ P ∷ U 0x04094 0xF gives 0 ∷ U 0x138078 0xF gives 0 ∷ U 0x1080C0 0xF gives 0 ∷ U 0x0810C 0xF gives 0 ∷ []) ∷
     -- 16 above 3FFFFFh or for no multiple of 4, before 6 and 7
-    (U 0x400000 0x10 refused 16 ∷ U 0x04096 0x10 refused 16 ∷ U 0x04094 0x10 refused 6 ∷ window (window-write 0x400000 0x10 0) refused 16 ∷ window (window-write 0x04094 0x10 0) refused 6 ∷ window (mirror-update 0x108082 0xFFFFFFFF 0) refused 16 ∷ window (mirror-update 0x108084 0xFFFFFFFF 0) refused 7 ∷ []) ∷
+    (U 0x400000 0x10 refused 16 ∷ U 0x04096 0x10 refused 16 ∷ U 0x04094 0x10 refused 6 ∷ InWindow (WindowWrite 0x400000 0x10 0) refused 16 ∷ InWindow (WindowWrite 0x04094 0x10 0) refused 6 ∷ InWindow (MirrorUpdate 0x108082 0xFFFFFFFF 0) refused 16 ∷ InWindow (MirrorUpdate 0x108084 0xFFFFFFFF 0) refused 7 ∷ []) ∷
     []
 
 -- ---- what a row claims: each step in turn is answered as it says

@@ -14,10 +14,10 @@ use Rattle.bits.specs.Places.{bytes}
 use Rattle.bits.proofs.Laws.{number-ext, number-bits, bit-low, bit-number, bit-zero, bit<2, blend-each, little-bits, joined-little}
 use Rattle.bits.proofs.Below.{below}
 use Rattle.bits.proofs.Places.{as-bytes, length-mapN, getD-mapN, length-put4, put4-at}
-use Rattle.answer.specs.Refusals.{ok, no, OFFSET, LANES}
-use Rattle.rules.specs.Access.{enabled, badOffset, badLanes}
+use Rattle.answer.specs.Refusals.{Reply, ok, no, OFFSET}
+use Rattle.rules.specs.Access.{enabled, badOffset}
 use Rattle.rules.specs.Plain.{Mask, held, under, undriven, laneValue, readReply, storedOver, writtenBit, returnedBit}
-use Rattle.rules.proofs.Access.{good-offset, enabled-at, byteFor-at, not-within}
+use Rattle.rules.proofs.Access.{admit-is, good-offset, enabled-at, byteFor-at, not-within}
 use Rattle.plain.specs.Bytes.{spreadOf, drivenOf, ifEnabled, laneOf, storedOf, returnedByte, returnedOf}
 
 -- ---- a read
@@ -67,13 +67,8 @@ unfolding drivenOf
 driven-is b l d e = number-ext 32 (λ (n : ℕ). pick (eqb (bit l (n / 8)) 1) (bit d n) undriven) (λ (n : ℕ). pick (eqb (bit l (n / 8)) 1) (b n) undriven) (λ n h. rw (e n h))
 
 -- two values that agree where the access is accepted make one reply
-pub reply-is : (o l x y : ℕ) → (o + 3 < 256 → l < 16 → x ≡ y) → readReply o l x ≡ readReply o l y
-reply-is o l x y e = go (badOffset o) (badLanes l) refl refl
-  where
-    go : (a b : Bool) → badOffset o ≡ a → badLanes l ≡ b → pick a (no OFFSET) (pick b (no LANES) (ok x)) ≡ pick a (no OFFSET) (pick b (no LANES) (ok y))
-    go true b p q = refl
-    go false true p q = refl
-    go false false p q = rw (e (good-offset o p .0) (omega (arith, ltb-false 15 l q)))
+pub reply-is : (o l x y : ℕ) → (o + 3 < 256 → x ≡ y) → readReply o l x ≡ readReply o l y
+reply-is o l x y e = admit-is (λ (r : Reply). r) (badOffset o) OFFSET l no (ok x) no (ok y) (λ r. refl) (λ b. rw (e (good-offset o b .0)))
 
 -- ---- a store
 

@@ -14,8 +14,8 @@ use Rattle.rules.specs.Access.{byte, busy, done}
 use Rattle.rules.specs.Guest.{stepOf, writeOf}
 use Rattle.rules.specs.Ports.{DATA, badWidth, atLatch, notOurs, latchBit, latchOf, dwordOf, portLanes, placed, portValue}
 use Rattle.rules.proofs.Lanes.{data-within, part-shown}
-use Rattle.reads.specs.Shown.{readDword}
-use Rattle.reads.proofs.Bridge.{dword-bit}
+use Rattle.guest_read.specs.Shown.{readDword}
+use Rattle.guest_read.proofs.Bridge.{dword-bit}
 use Rattle.ports.specs.Part.{Width, partOf}
 use Rattle.ports.proofs.Widths.{some, good-width}
 

@@ -2,12 +2,13 @@
 ghost use mathlib.Core.Path.{_≡_};
 ghost use Prim.Native.Nat.{_+_, _%_, _^_, _<_, _≤_};
 ghost use Rattle.rules.specs.Ports.{badWidth, atLatch, atData, notOurs, otherFunction, latchOf, portLanes, placed, portReadOf, portWriteOf};
-ghost use Rattle.rules.specs.Answers.{portReadSays, portWrote};
+ghost use Rattle.answer.specs.Said.{says};
+ghost use Rattle.rules.specs.Answers.{stepped};
 ghost use Rattle.ports.specs.Part.{Width, partOf};
-use rules::PortReadAnswer;
-use rules::PortWriteAnswer;
-use rules::PortWritten;
+use answer::Answer;
+use answer::Refusal;
 use rules::State;
+use rules::Stepped;
 
 const ADDRESS: u16 = 0xCF8;
 
@@ -167,55 +168,55 @@ fn latched(value: u32) -> u32
 // ---- the entries
 
 // A read of `width` bytes at `port`.
-pub fn port_read(s: State, port: u16, width: u32) -> PortReadAnswer
-    ensures { λ r. ⌜ portReadSays r ≡ portReadOf s port width ⌝ }
+pub fn port_read(s: State, port: u16, width: u32) -> Answer
+    ensures { λ r. ⌜ says r ≡ portReadOf s port width ⌝ }
 {
     let latch = s.latch;
     if bad_width(width) {
-        return PortReadAnswer::Width;
+        return Answer::No(Refusal::Width);
     }
     if not_ours(latch, port, width) {
-        return PortReadAnswer::NotOurs;
+        return Answer::No(Refusal::NotOurs);
     }
     if at_latch(port, width) {
-        return PortReadAnswer::Value(latch);
+        return Answer::Value(latch);
     }
     if other_function(latch) {
-        return PortReadAnswer::OtherFunction;
+        return Answer::No(Refusal::OtherFunction);
     }
     let t = s;
-    let whole = reads::dword(&t.bytes, t.flags.busy, (latch / 4 % 64) as u8);
-    PortReadAnswer::Value(part(whole, (port % 4) as u32, width))
+    let whole = guest_read::dword(&t.bytes, t.flags.busy, (latch / 4 % 64) as u8);
+    Answer::Value(part(whole, (port % 4) as u32, width))
 }
 
 // A write of the low `width` bytes of `value` at `port`.
-pub fn port_write(s: State, port: u16, width: u32, value: u32) -> PortWritten
-    ensures { λ r. ⌜ portWrote r ≡ portWriteOf s port width value ⌝ }
+pub fn port_write(s: State, port: u16, width: u32, value: u32) -> Stepped
+    ensures { λ r. ⌜ stepped r ≡ portWriteOf s port width value ⌝ }
 {
     let latch = s.latch;
     if bad_width(width) {
-        return PortWritten {
-            answer: PortWriteAnswer::Width,
+        return Stepped {
+            answer: Answer::No(Refusal::Width),
             state: s,
         };
     }
     if not_ours(latch, port, width) {
-        return PortWritten {
-            answer: PortWriteAnswer::NotOurs,
+        return Stepped {
+            answer: Answer::No(Refusal::NotOurs),
             state: s,
         };
     }
     if at_latch(port, width) {
         let mut t = s;
         t.latch = latched(value);
-        return PortWritten {
-            answer: PortWriteAnswer::Done,
+        return Stepped {
+            answer: Answer::Done,
             state: t,
         };
     }
     if other_function(latch) {
-        return PortWritten {
-            answer: PortWriteAnswer::OtherFunction,
+        return Stepped {
+            answer: Answer::No(Refusal::OtherFunction),
             state: s,
         };
     }
@@ -227,8 +228,8 @@ pub fn port_write(s: State, port: u16, width: u32, value: u32) -> PortWritten
         place(value, a, width),
     );
     let t = w.state;
-    PortWritten {
-        answer: PortWriteAnswer::Done,
+    Stepped {
+        answer: Answer::Done,
         state: t,
     }
 }

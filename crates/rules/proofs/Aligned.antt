@@ -18,7 +18,8 @@ use Rattle.rules.specs.declared.State.{State}
 use Rattle.rules.specs.Access.{byte}
 use Rattle.rules.specs.Guest.{sizeOf, leastExponent, bitsTaken, exponentOf, takenBy}
 use Rattle.rules.specs.Claims.{baseBit, base, apertureBase}
-use Rattle.rules.specs.Events.{Event, run}
+use Rattle.rules.specs.declared.Event.{Event}
+use Rattle.rules.specs.Events.{run}
 use Rattle.rules.proofs.Fixed.{default-holds}
 use Rattle.rules.proofs.Size.{taken-zero}
 

@@ -10,7 +10,7 @@ use Rattle.bits.specs.Bits.{bit, numberOf, byteOf}
 use Rattle.bits.specs.Choice.{pick, both, either, allBelow}
 use Rattle.bits.proofs.Laws.{number-ext}
 use Rattle.bits.proofs.Below.{below, both-left, both-right, is-true, is-false}
-use Rattle.answer.specs.Refusals.{ok, no}
+use Rattle.answer.specs.Refusals.{number, value, ok, no}
 use Rattle.map.specs.Registers.{CAPPOINT, CAPL, MSAC, SVID2, SID2, AFCTL, SWSCI}
 use Rattle.map.specs.Class.{Field, svid2, sid2, swsci15, once, computed, stores, isHost, sameClass}
 use Rattle.map.specs.Map.{rows, rowAt, classOf, defaults, defaultAt}
@@ -23,7 +23,10 @@ use Rattle.rules.specs.Host.{notHost, hostStepOf, hostOf}
 use Rattle.rules.specs.Reset.{reset, endedBit, endedOf, endOf}
 use Rattle.rules.specs.Ports.{badWidth, notOurs, atLatch, otherFunction, latched, portLanes, portValue, portReadOf, portWriteOf}
 use Rattle.rules.specs.Window.{badWindow, windowReadOf, windowWriteOf, beyond, requestMask, completeOf, faultMask, faultOf, mirrorMask, mirrorUpdateOf}
-use Rattle.rules.specs.Events.{window-read, window-write, complete, fault, add-cycles, mirror-update, windowHappens, Event, read, write, port-read, port-write, host-update, end-signal, platform-reset, window, looked, happens, run}
+use Rattle.rules.specs.declared.WindowEvent.the-variants.{WindowRead, WindowWrite, Complete, Fault, AddCycles, MirrorUpdate}
+use Rattle.rules.specs.declared.Event.{Event}
+use Rattle.rules.specs.declared.Event.the-variants.{Read, Write, PortRead, PortWrite, HostUpdate, EndSignal, PlatformReset, InWindow}
+use Rattle.rules.specs.Events.{windowHappens, looked, happens, run}
 use Rattle.rules.specs.Demand3.{Write-once, Read-only, Computed, codeOf, Aperture, Refused, Reads, Busy, Started, Ended, Latch, Unlaned, Power, Poll, lockedWord, Read-back-2C, Read-back-2E, Read-back-E8}
 use Rattle.rules.specs.History.{Seen, seen, firstWrite, overDefault}
 use Rattle.rules.proofs.Lanes.{read-part}
@@ -62,7 +65,7 @@ aperture es =
 
 -- where its number is not 0
 abbrev Unchanged : Outcome → State → Type 0
-Unchanged r s = (r .reply .number ≡ 0 → ⊥) → (r .reply .value ≡ 0) × (r .state ≡ s)
+Unchanged r s = (number (r .reply) ≡ 0 → ⊥) → (value (r .reply) ≡ 0) × (r .state ≡ s)
 
 one : (a : Bool) (n : ℕ) (s t : State) → Unchanged (pick a (refused n s) (done t)) s
 one true n s t r = (refl, refl)
@@ -95,19 +98,19 @@ three false false false false l m n s t u r = absurd (r refl)
 
 pub refused-changes-nothing : Refused
 unfolding happens readOf writeOf hostOf portReadOf portWriteOf windowHappens windowReadOf windowWriteOf completeOf faultOf mirrorUpdateOf
-refused-changes-nothing (read o l) s r = looks-two (badOffset o) (badLanes l) _ _ _ s r
-refused-changes-nothing (write o l v) s r = two (badOffset o) (badLanes l) _ _ s (stepOf s o l v) r
-refused-changes-nothing (port-read p w) s r = looks-three (badWidth w) (notOurs (s .latch) p w) (atLatch p w) (otherFunction (s .latch)) _ _ _ _ _ s r
-refused-changes-nothing (port-write p w v) s r = three (badWidth w) (notOurs (s .latch) p w) (atLatch p w) (otherFunction (s .latch)) _ _ _ s (latched s v) _ r
-refused-changes-nothing (host-update o m v) s r = two (ltb 255 o) (notHost o m) _ _ s (hostStepOf s o m v) r
-refused-changes-nothing end-signal s r = absurd (r refl)
-refused-changes-nothing platform-reset s r = absurd (r refl)
-refused-changes-nothing (window (window-read o l)) s r = looks-two (badWindow o) (badLanes l) _ _ _ s r
-refused-changes-nothing (window (window-write o l v)) s r = two (badWindow o) (badLanes l) _ _ s _ r
-refused-changes-nothing (window (complete m)) s r = one (beyond requestMask m) _ s _ r
-refused-changes-nothing (window (fault v)) s r = one (beyond faultMask v) _ s _ r
-refused-changes-nothing (window (add-cycles n)) s r = absurd (r refl)
-refused-changes-nothing (window (mirror-update o m v)) s r = two (badWindow o) (beyond (mirrorMask o) m) _ _ s _ r
+refused-changes-nothing (Read o l) s r = looks-two (badOffset o) (badLanes l) _ _ _ s r
+refused-changes-nothing (Write o l v) s r = two (badOffset o) (badLanes l) _ _ s (stepOf s o l v) r
+refused-changes-nothing (PortRead p w) s r = looks-three (badWidth w) (notOurs (s .latch) p w) (atLatch p w) (otherFunction (s .latch)) _ _ _ _ _ s r
+refused-changes-nothing (PortWrite p w v) s r = three (badWidth w) (notOurs (s .latch) p w) (atLatch p w) (otherFunction (s .latch)) _ _ _ s (latched s v) _ r
+refused-changes-nothing (HostUpdate o m v) s r = two (ltb 255 o) (notHost o m) _ _ s (hostStepOf s o m v) r
+refused-changes-nothing EndSignal s r = absurd (r refl)
+refused-changes-nothing PlatformReset s r = absurd (r refl)
+refused-changes-nothing (InWindow (WindowRead o l)) s r = looks-two (badWindow o) (badLanes l) _ _ _ s r
+refused-changes-nothing (InWindow (WindowWrite o l v)) s r = two (badWindow o) (badLanes l) _ _ s _ r
+refused-changes-nothing (InWindow (Complete m)) s r = one (beyond requestMask m) _ s _ r
+refused-changes-nothing (InWindow (Fault v)) s r = one (beyond faultMask v) _ s _ r
+refused-changes-nothing (InWindow (AddCycles n)) s r = absurd (r refl)
+refused-changes-nothing (InWindow (MirrorUpdate o m v)) s r = two (badWindow o) (beyond (mirrorMask o) m) _ _ s _ r
 
 pub reads-change-nothing : Reads
 unfolding happens windowHappens

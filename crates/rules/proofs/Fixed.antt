@@ -14,7 +14,9 @@ use Rattle.rules.specs.Access.{byte, busy}
 use Rattle.rules.specs.Host.{notHost, hostBit, hostStepOf, hostOf}
 use Rattle.rules.specs.Reset.{endedOf, endOf}
 use Rattle.rules.specs.Fresh.{freshOf}
-use Rattle.rules.specs.Events.{Event, read, write, port-read, port-write, host-update, end-signal, platform-reset, window, happens, next, run}
+use Rattle.rules.specs.declared.Event.{Event}
+use Rattle.rules.specs.declared.Event.the-variants.{Read, Write, PortRead, PortWrite, HostUpdate, EndSignal, PlatformReset, InWindow}
+use Rattle.rules.specs.Events.{happens, next, run}
 use Rattle.rules.specs.History.{isReset, since, GuestWrite, none, at, guestWrite, gives, lastUpdate, orDefault}
 use Rattle.rules.specs.Past.{nothing, given, orHeld}
 use Rattle.rules.proofs.Past.{history, none-given}
@@ -58,7 +60,7 @@ module _ (i j : ℕ) (h : i < 256) (k : j < 8) where
     unfolding endOf
     end-bit s z = pick-has (λ (t : State). B t ≡ B s) (busy s) (endedOf s) s (bit-ended s i j h k ∙ unreturned s i j fixed z) refl
 
-    host-bit : (s : State) (o m v : ℕ) → B (hostOf s o m v .state) ≡ orHeld (gives i j (host-update o m v)) (B s)
+    host-bit : (s : State) (o m v : ℕ) → B (hostOf s o m v .state) ≡ orHeld (gives i j (HostUpdate o m v)) (B s)
     unfolding gives hostBit notHost
     host-bit s o m v = rw (host-state s o m v) (go (not (either (ltb 255 o) (notHost o m))))
       where
@@ -72,26 +74,26 @@ module _ (i j : ℕ) (h : i < 256) (k : j < 8) where
 
     event-bit : (e : Event) (s : State) → isReset e ≡ false → Z s → B (happens e s .state) ≡ orHeld (gives i j e) (B s)
     unfolding happens gives
-    event-bit (read o l) s n z = refl
-    event-bit (write o l v) s n z = ap B (write-effect s o l v) ∙ guest-bit (guestWrite (seenOf s) (write o l v)) s
-    event-bit (port-read p w) s n z = refl
-    event-bit (port-write p w v) s n z = ap B (port-effect s p w v) ∙ guest-bit (guestWrite (seenOf s) (port-write p w v)) s
-    event-bit (host-update o m v) s n z = host-bit s o m v
-    event-bit end-signal s n z = end-bit s z
-    event-bit platform-reset s n z = absurd (subst T n tt)
-    event-bit (window e) s n z = ap B (window-effect s e .1)
+    event-bit (Read o l) s n z = refl
+    event-bit (Write o l v) s n z = ap B (write-effect s o l v) ∙ guest-bit (guestWrite (seenOf s) (Write o l v)) s
+    event-bit (PortRead p w) s n z = refl
+    event-bit (PortWrite p w v) s n z = ap B (port-effect s p w v) ∙ guest-bit (guestWrite (seenOf s) (PortWrite p w v)) s
+    event-bit (HostUpdate o m v) s n z = host-bit s o m v
+    event-bit EndSignal s n z = end-bit s z
+    event-bit PlatformReset s n z = absurd (subst T n tt)
+    event-bit (InWindow e) s n z = ap B (window-effect s e .1)
 
     -- no event gives a bit that is not the host's
     ungiven : isHost (classOf i j) ≡ false → (e : Event) → gives i j e ≡ nothing
     unfolding gives
-    ungiven own (read o l) = refl
-    ungiven own (write o l v) = refl
-    ungiven own (port-read p w) = refl
-    ungiven own (port-write p w v) = refl
-    ungiven own (host-update o m v) = no-gift (λ (i j : ℕ). isHost (classOf i j)) i j k own o m v
-    ungiven own end-signal = refl
-    ungiven own platform-reset = refl
-    ungiven own (window e) = refl
+    ungiven own (Read o l) = refl
+    ungiven own (Write o l v) = refl
+    ungiven own (PortRead p w) = refl
+    ungiven own (PortWrite p w v) = refl
+    ungiven own (HostUpdate o m v) = no-gift (λ (i j : ℕ). isHost (classOf i j)) i j k own o m v
+    ungiven own EndSignal = refl
+    ungiven own PlatformReset = refl
+    ungiven own (InWindow e) = refl
 
     keeps : (e : Event) (s : State) → isReset e ≡ false → Z s → Z (happens e s .state)
     keeps e s n z t = event-bit e s n z ∙ rw (ungiven (start-is i j h k t .1) e) (z t)

@@ -14,7 +14,8 @@ use Rattle.rules.specs.Guest.{bitAfter, writtenOf}
 use Rattle.rules.specs.Reset.{endedBit, endedOf}
 use Rattle.rules.specs.Host.{hostBit, hostStepOf}
 use Rattle.rules.specs.Fresh.{freshOf}
-use Rattle.rules.specs.Events.{Event, happens}
+use Rattle.rules.specs.declared.Event.{Event}
+use Rattle.rules.specs.Events.{happens}
 use Rattle.rules.proofs.Access.{after<2, ended<2}
 use Rattle.rules.proofs.EachBit.{host<2}
 use Rattle.rules.proofs.Runs.{event-keeps}

@@ -9,7 +9,7 @@ use Rattle.bits.specs.Bits.{bit, numberOf, byteOf}
 use Rattle.bits.specs.Choice.{pick, both, mark}
 use Rattle.bits.proofs.Laws.{number-ext, number-split, bit-number, bit-zero, byte-bit, bytes-part}
 use Rattle.bits.proofs.Below.{both-left, both-right, both-off, either-left, mark<2, mark-is}
-use Rattle.answer.specs.Refusals.{Reply, ok, no, WIDTH, NOT-OURS, OTHER-FUNCTION}
+use Rattle.answer.specs.Refusals.{number, value, Reply, ok, no, WIDTH, NOT-OURS, OTHER-FUNCTION}
 use Rattle.rules.specs.declared.State.{State}
 use Rattle.rules.specs.Access.{badOffset, badLanes}
 use Rattle.rules.specs.Read.{readBit, readValue}
@@ -47,7 +47,7 @@ no-lanes b o = number-ext 32 (λ (n : ℕ). pick (eqb (bit 0 (n / 8)) 1) (b (o +
 pub refused-read : Refused-read
 refused-read o l v n = go (badOffset o) (badLanes l) refl refl
   where
-    go : (a b : Bool) → badOffset o ≡ a → badLanes l ≡ b → readReply o l v .value ≡ 0
+    go : (a b : Bool) → badOffset o ≡ a → badLanes l ≡ b → value (readReply o l v) ≡ 0
     go true b p q = rw p
     go false true p q = rw (p, q)
     go false false p q = absurd (n (rw (p, q)))
@@ -100,14 +100,14 @@ unfolding portReadOf
 through-port s p w v d n e shows = go (badWidth w) (notOurs (s .latch) p w) (otherFunction (s .latch)) refl (rw n at e)
   where
     go : (a b c : Bool) → notOurs (s .latch) p w ≡ b → pick a (no WIDTH) (pick b (no NOT-OURS) (pick c (no OTHER-FUNCTION) (ok (portValue s (dwordOf (s .latch) + (p - DATA)) w)))) ≡ ok v → v ≡ d / 256 ^ (p - DATA) % 256 ^ w
-    go true b c q r = absurd (omega (arith, ap (λ (x : Reply). x .number) r))
-    go false true c q r = absurd (omega (arith, ap (λ (x : Reply). x .number) r))
-    go false false true q r = absurd (omega (arith, ap (λ (x : Reply). x .number) r))
+    go true b c q r = absurd (omega (arith, ap number r))
+    go false true c q r = absurd (omega (arith, ap number r))
+    go false false true q r = absurd (omega (arith, ap number r))
     go false false false q r =
         let f = data-within (s .latch) p w q n in
         let from : DATA ≤ p = f .0 in
         let to : p + w ≤ 0xD00 = f .1 in
-        sym (ap (λ (x : Reply). x .value) r)
+        sym (ap value r)
         ∙ sym (part-shown s (dwordOf (s .latch)) (p - DATA) w d (λ m l. shows-bit s (dwordOf (s .latch)) (portLanes (p - DATA) w) d shows (8 * (p - DATA) + m) (omega arith) (lane-on (p - DATA) w ((8 * (p - DATA) + m) / 8) (omega arith) (omega arith) (omega arith))))
 
 -- ---- a direct read with such lanes

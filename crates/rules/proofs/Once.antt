@@ -19,7 +19,9 @@ use Rattle.rules.specs.Guest.{closed, sizeOf, takenBy, takes, store, sto
 use Rattle.rules.specs.Reset.{idle, endedOf, endOf}
 use Rattle.rules.specs.Host.{notHost, hostStepOf, hostOf}
 use Rattle.rules.specs.Fresh.{freshOf}
-use Rattle.rules.specs.Events.{Event, read, write, port-read, port-write, host-update, end-signal, platform-reset, window, happens, runFrom, run}
+use Rattle.rules.specs.declared.Event.{Event}
+use Rattle.rules.specs.declared.Event.the-variants.{Read, Write, PortRead, PortWrite, HostUpdate, EndSignal, PlatformReset, InWindow}
+use Rattle.rules.specs.Events.{happens, runFrom, run}
 use Rattle.rules.specs.History.{isReset, anyReset, since, GuestWrite, none, at, acceptedWrite, guestWrite, atStart, seenNext, touching, firstFrom, firstWrite, overDefault}
 use Rattle.rules.proofs.Access.{enabled-within}
 use Rattle.rules.proofs.EachBit.{bit-after, bit-hosted, bit-ended, host-state}
@@ -138,20 +140,20 @@ module _ (f : Field) (i j : ℕ) (h : i < 256) (k : j < 8) (is : classOf i j ≡
 
   event : (e : Event) (s : State) → isReset e ≡ false → After e s
   unfolding happens acceptedWrite
-  event (read o l) s n = record { closes = refl; bits = refl }
-  event (write o l v) s n =
-      let g = guestWrite (seenOf s) (write o l v) in
+  event (Read o l) s n = record { closes = refl; bits = refl }
+  event (Write o l v) s n =
+      let g = guestWrite (seenOf s) (Write o l v) in
       let q = write-effect s o l v in
       record { closes = ap (λ (x : State). closed (x .flags) f) q ∙ closed-performed f g s; bits = ap B q }
-  event (port-read p w) s n = record { closes = refl; bits = refl }
-  event (port-write p w v) s n =
-      let g = guestWrite (seenOf s) (port-write p w v) in
+  event (PortRead p w) s n = record { closes = refl; bits = refl }
+  event (PortWrite p w v) s n =
+      let g = guestWrite (seenOf s) (PortWrite p w v) in
       let q = port-effect s p w v in
       record { closes = ap (λ (x : State). closed (x .flags) f) q ∙ closed-performed f g s; bits = ap B q }
-  event (host-update o m v) s n = let q = hosted s o m v in record { closes = q .0; bits = q .1 }
-  event end-signal s n = let q = ended s in record { closes = q .0; bits = q .1 }
-  event platform-reset s n = absurd (subst T n tt)
-  event (window e) s n = let q = window-effect s e .1 in record { closes = ap (λ (x : State). closed (x .flags) f) q; bits = ap B q }
+  event (HostUpdate o m v) s n = let q = hosted s o m v in record { closes = q .0; bits = q .1 }
+  event EndSignal s n = let q = ended s in record { closes = q .0; bits = q .1 }
+  event PlatformReset s n = absurd (subst T n tt)
+  event (InWindow e) s n = let q = window-effect s e .1 in record { closes = ap (λ (x : State). closed (x .flags) f) q; bits = ap B q }
 
   -- ---- runs without a platform reset
 

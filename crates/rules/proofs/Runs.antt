@@ -16,7 +16,11 @@ use Rattle.rules.specs.Host.{notHost, hostStepOf}
 use Rattle.rules.specs.Fresh.{freshOf}
 use Rattle.rules.specs.Window.{badWindow, withWindow, windowStepOf, windowWriteOf, beyond, requestMask, completeOf, faultMask, faultOf, cyclesOf, mirrorMask, mirrorUpdateOf}
 use Rattle.rules.specs.Ports.{ADDRESS, DATA, badWidth, atLatch, notOurs, otherFunction, latchOf, latched, dwordOf, portLanes, placed, portWriteOf}
-use Rattle.rules.specs.Events.{WindowEvent, window-read, window-write, complete, fault, add-cycles, mirror-update, windowHappens, Event, read, write, port-read, port-write, host-update, end-signal, platform-reset, window, happens, next, runFrom, run}
+use Rattle.rules.specs.declared.WindowEvent.{WindowEvent}
+use Rattle.rules.specs.declared.WindowEvent.the-variants.{WindowRead, WindowWrite, Complete, Fault, AddCycles, MirrorUpdate}
+use Rattle.rules.specs.declared.Event.{Event}
+use Rattle.rules.specs.declared.Event.the-variants.{Read, Write, PortRead, PortWrite, HostUpdate, EndSignal, PlatformReset, InWindow}
+use Rattle.rules.specs.Events.{windowHappens, happens, next, runFrom, run}
 use Rattle.rules.specs.History.{isReset, anyReset, since, latchAfter, GuestWrite, none, at, acceptedWrite, unlessBusy, guestWrite, starting, Seen, seenNext, seen}
 use Rattle.rules.specs.Past.{ran}
 use Rattle.rules.proofs.EachBit.{write-state, host-state}
@@ -28,14 +32,14 @@ use Rattle.rules.proofs.Past as P
 -- a platform reset forgets the state
 pub reset-forgets : (e : Event) (s : State) → isReset e ≡ true → happens e s .state ≡ freshOf
 unfolding happens
-reset-forgets (read o l) s e = absurd (subst T (sym e) tt)
-reset-forgets (write o l v) s e = absurd (subst T (sym e) tt)
-reset-forgets (port-read p w) s e = absurd (subst T (sym e) tt)
-reset-forgets (port-write p w v) s e = absurd (subst T (sym e) tt)
-reset-forgets (host-update o m v) s e = absurd (subst T (sym e) tt)
-reset-forgets end-signal s e = absurd (subst T (sym e) tt)
-reset-forgets platform-reset s e = refl
-reset-forgets (window e) s h = absurd (subst T (sym h) tt)
+reset-forgets (Read o l) s e = absurd (subst T (sym e) tt)
+reset-forgets (Write o l v) s e = absurd (subst T (sym e) tt)
+reset-forgets (PortRead p w) s e = absurd (subst T (sym e) tt)
+reset-forgets (PortWrite p w v) s e = absurd (subst T (sym e) tt)
+reset-forgets (HostUpdate o m v) s e = absurd (subst T (sym e) tt)
+reset-forgets EndSignal s e = absurd (subst T (sym e) tt)
+reset-forgets PlatformReset s e = refl
+reset-forgets (InWindow e) s h = absurd (subst T (sym h) tt)
 
 -- a run is the run of what came since
 pub run-since : (es : List Event) → run es ≡ run (since es)
@@ -64,7 +68,7 @@ latch-width p w e =
     let four : w ≡ 4 = eqb→eq w 4 (both-right (eqb p ADDRESS) (eqb w 4) (subst T (sym e) tt)) in
     rw four
 
-pub write-effect : (s : State) (o l v : ℕ) → writeOf s o l v .state ≡ performed (guestWrite (seenOf s) (write o l v)) s
+pub write-effect : (s : State) (o l v : ℕ) → writeOf s o l v .state ≡ performed (guestWrite (seenOf s) (Write o l v)) s
 unfolding acceptedWrite stepOf
 write-effect s o l v = write-state s o l v ∙ rw (direct-is o l) (go (not (either (badOffset o) (badLanes l))) (busy s))
   where
@@ -74,7 +78,7 @@ write-effect s o l v = write-state s o l v ∙ rw (direct-is o l) (go (not (eith
     go false true = refl
     go false false = refl
 
-pub port-effect : (s : State) (p w v : ℕ) → portWriteOf s p w v .state ≡ withLatch (latchAfter (s .latch) (port-write p w v)) (performed (guestWrite (seenOf s) (port-write p w v)) s)
+pub port-effect : (s : State) (p w v : ℕ) → portWriteOf s p w v .state ≡ withLatch (latchAfter (s .latch) (PortWrite p w v)) (performed (guestWrite (seenOf s) (PortWrite p w v)) s)
 unfolding portWriteOf notOurs acceptedWrite stepOf writtenOf
 port-effect s p w v = rw (data-is (s .latch) p w) (go (badWidth w) (notOurs (s .latch) p w) (atLatch p w) (otherFunction (s .latch)) (busy s) refl refl refl)
   where
@@ -115,12 +119,12 @@ module _ (s : State) where
 
   pub window-effect : (e : WindowEvent) → Only (windowHappens e s .state)
   unfolding windowHappens windowWriteOf windowStepOf completeOf faultOf cyclesOf mirrorUpdateOf
-  window-effect (window-read o l) = same
-  window-effect (window-write o l v) = unless (badWindow o) WINDOW-OFFSET _ (unless (badLanes l) LANES _ (pick-has Only (busy s) _ _ same (_, refl)))
-  window-effect (complete m) = unless (beyond requestMask m) NOT-HOST _ (_, refl)
-  window-effect (fault v) = unless (beyond faultMask v) NOT-HOST _ (_, refl)
-  window-effect (add-cycles n) = (_, refl)
-  window-effect (mirror-update o m v) = unless (badWindow o) WINDOW-OFFSET _ (unless (beyond (mirrorMask o) m) NOT-HOST _ (_, refl))
+  window-effect (WindowRead o l) = same
+  window-effect (WindowWrite o l v) = unless (badWindow o) WINDOW-OFFSET _ (unless (badLanes l) LANES _ (pick-has Only (busy s) _ _ same (_, refl)))
+  window-effect (Complete m) = unless (beyond requestMask m) NOT-HOST _ (_, refl)
+  window-effect (Fault v) = unless (beyond faultMask v) NOT-HOST _ (_, refl)
+  window-effect (AddCycles n) = (_, refl)
+  window-effect (MirrorUpdate o m v) = unless (badWindow o) WINDOW-OFFSET _ (unless (beyond (mirrorMask o) m) NOT-HOST _ (_, refl))
 
 -- ---- what is seen
 
@@ -140,24 +144,24 @@ seen-performed (at o l v) s = rw (raised-up (starts o l v) (s .flags .busy))
 -- each event in turn: what the state tells is what the events tell
 pub seen-event : (e : Event) (s : State) → seenOf (happens e s .state) ≡ seenNext e (seenOf s)
 unfolding happens endOf endedOf hostStepOf freshOf
-seen-event (read o l) s = refl
-seen-event (write o l v) s = ap seenOf (write-effect s o l v) ∙ seen-performed (guestWrite (seenOf s) (write o l v)) s
-seen-event (port-read p w) s = refl
-seen-event (port-write p w v) s =
-    let g = guestWrite (seenOf s) (port-write p w v) in
-    ap seenOf (port-effect s p w v) ∙ ap (λ (x : Seen). record { latch = latchAfter (s .latch) (port-write p w v); busy = x .busy }) (seen-performed g s)
-seen-event (host-update o m v) s = rw (host-state s o m v) (go (not (either (ltb 255 o) (notHost o m))))
+seen-event (Read o l) s = refl
+seen-event (Write o l v) s = ap seenOf (write-effect s o l v) ∙ seen-performed (guestWrite (seenOf s) (Write o l v)) s
+seen-event (PortRead p w) s = refl
+seen-event (PortWrite p w v) s =
+    let g = guestWrite (seenOf s) (PortWrite p w v) in
+    ap seenOf (port-effect s p w v) ∙ ap (λ (x : Seen). record { latch = latchAfter (s .latch) (PortWrite p w v); busy = x .busy }) (seen-performed g s)
+seen-event (HostUpdate o m v) s = rw (host-state s o m v) (go (not (either (ltb 255 o) (notHost o m))))
   where
     go : (a : Bool) → seenOf (pick a (hostStepOf s o m v) s) ≡ seenOf s
     go true = refl
     go false = refl
-seen-event end-signal s = go (busy s) refl
+seen-event EndSignal s = go (busy s) refl
   where
     go : (b : Bool) → busy s ≡ b → seenOf (pick b (endedOf s) s) ≡ record { latch = s .latch; busy = false }
     go true e = refl
     go false e = rw e
-seen-event platform-reset s = refl
-seen-event (window e) s = ap seenOf (window-effect s e .1)
+seen-event PlatformReset s = refl
+seen-event (InWindow e) s = ap seenOf (window-effect s e .1)
 
 pub seen-run : (es : List Event) → seenOf (run es) ≡ seen es
 unfolding freshOf ran
@@ -183,19 +187,19 @@ module _ (P : State → Type 0) (fresh : P freshOf) (step : (s : State) (o l v :
 
   pub event-keeps : (e : Event) (s : State) → P s → P (happens e s .state)
   unfolding happens endOf
-  event-keeps (read o l) s h = h
-  event-keeps (write o l v) s h = rw (write-effect s o l v) (performed-keeps (guestWrite (seenOf s) (write o l v)) s h)
-  event-keeps (port-read p w) s h = h
-  event-keeps (port-write p w v) s h = rw (port-effect s p w v) (beside _ _ _ (performed-keeps (guestWrite (seenOf s) (port-write p w v)) s h))
-  event-keeps (host-update o m v) s h = rw (host-state s o m v) (go (ltb 255 o) (notHost o m) refl)
+  event-keeps (Read o l) s h = h
+  event-keeps (Write o l v) s h = rw (write-effect s o l v) (performed-keeps (guestWrite (seenOf s) (Write o l v)) s h)
+  event-keeps (PortRead p w) s h = h
+  event-keeps (PortWrite p w v) s h = rw (port-effect s p w v) (beside _ _ _ (performed-keeps (guestWrite (seenOf s) (PortWrite p w v)) s h))
+  event-keeps (HostUpdate o m v) s h = rw (host-state s o m v) (go (ltb 255 o) (notHost o m) refl)
     where
       go : (a b : Bool) → notHost o m ≡ b → P (pick (not (either a b)) (hostStepOf s o m v) s)
       go true b e = h
       go false true e = h
       go false false e = host s o m v e h
-  event-keeps end-signal s h = pick-has P (busy s) (endedOf s) s (ended s h) h
-  event-keeps platform-reset s h = fresh
-  event-keeps (window e) s h = rw (window-effect s e .1) (beside s (s .latch) _ h)
+  event-keeps EndSignal s h = pick-has P (busy s) (endedOf s) s (ended s h) h
+  event-keeps PlatformReset s h = fresh
+  event-keeps (InWindow e) s h = rw (window-effect s e .1) (beside s (s .latch) _ h)
 
   pub always : (es : List Event) → P (run es)
   always es = each-keeps P event-keeps es freshOf fresh

@@ -20,7 +20,8 @@ use Rattle.rules.specs.Guest.{sizeOf, takenBy, takes, store, clear, stor
 use Rattle.rules.specs.Reset.{reset, endedBit, endedOf}
 use Rattle.rules.specs.Host.{notHost, hostBit, hostStepOf}
 use Rattle.rules.specs.Fresh.{freshOf}
-use Rattle.rules.specs.Events.{Event, run}
+use Rattle.rules.specs.declared.Event.{Event}
+use Rattle.rules.specs.Events.{run}
 use Rattle.rules.proofs.Access.{after<2, stored<2, outside, no-aperture}
 use Rattle.rules.proofs.EachBit.{bit-after, bit-hosted, bit-ended}
 use Rattle.rules.proofs.Kept.{only-stored, stored-off, ended-off, host-kept}

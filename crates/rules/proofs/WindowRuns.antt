@@ -25,9 +25,13 @@ use Rattle.rules.specs.Past.{nothing, given, orHeld, ran, lastGiven}
 use Rattle.rules.specs.Plain.{Bits, undriven, laneValue, shownValue}
 use Rattle.rules.specs.Claims.{Claimed, unclaimed, claimed, translation, aperture, io, translationBase, apertureBase, translationExponent, holds, off, apertureClaim, memoryClaimOf}
 use Rattle.rules.specs.Window.{FAULT-REG, ASSRREQ, MTOUUD, MTOUUD-HIGH, MBDSM, DRAM-CYCLES, badWindow, withWindow, windowBit, windowReadBit, windowReadOf, withFault, withAssrreq, withMtouud, withMtouudh, withMbdsm, withCycles, clears, asks, acknowledged, requested, faulted, windowWritten, windowStepOf, windowWriteOf, beyond, masked, requestMask, completeOf, faultMask, faultOf, cyclesOf, mirrorMask, mirrored, mirrorUpdateOf}
-use Rattle.rules.specs.Events.{WindowEvent, window-read, window-write, complete, fault, add-cycles, mirror-update, windowHappens, Event, read, write, port-read, port-write, host-update, end-signal, platform-reset, window, happens, next, runFrom, run}
+use Rattle.rules.specs.declared.WindowEvent.{WindowEvent}
+use Rattle.rules.specs.declared.WindowEvent.the-variants.{WindowRead, WindowWrite, Complete, Fault, AddCycles, MirrorUpdate}
+use Rattle.rules.specs.declared.Event.{Event}
+use Rattle.rules.specs.declared.Event.the-variants.{Read, Write, PortRead, PortWrite, HostUpdate, EndSignal, PlatformReset, InWindow}
+use Rattle.rules.specs.Events.{windowHappens, happens, next, runFrom, run}
 use Rattle.rules.specs.History.{isReset, anyReset, since, GuestWrite, none, at, Seen, guestWrite}
-use Rattle.rules.specs.WindowRuns.{isMirror, inWindow, mirrorGives, mirrorBit, Mirrors, Mirrors-read, counted, total, Sum, clearing, Locked, Requests, Left, Apart, Window-busy, Window-lanes, Window-no-lanes, Window-unlaned, Claimed-reached}
+use Rattle.rules.specs.WindowRuns.{isMirror, ofWindow, mirrorGives, mirrorBit, Mirrors, Mirrors-read, counted, total, Sum, clearing, Locked, Requests, Left, Apart, Window-busy, Window-lanes, Window-no-lanes, Window-unlaned, Claimed-reached}
 use Rattle.rules.proofs.Past.{history}
 use Rattle.rules.proofs.EachBit.{host-state}
 use Rattle.rules.proofs.Lanes.{in-lanes, no-lanes}
@@ -46,38 +50,38 @@ picked false s t e = refl
 
 pub window-left : Left
 unfolding happens hostOf endOf endedOf hostStepOf
-window-left (read o l) s n w = refl
-window-left (write o l v) s n w = ap (λ (x : State). x .window) (write-effect s o l v) ∙ performed-leaves (guestWrite (seenOf s) (write o l v)) s
-window-left (port-read p w) s n x = refl
-window-left (port-write p w v) s n x = ap (λ (x : State). x .window) (port-effect s p w v) ∙ performed-leaves (guestWrite (seenOf s) (port-write p w v)) s
-window-left (host-update o m v) s n w = ap (λ (x : State). x .window) (host-state s o m v) ∙ picked (not (either (ltb 255 o) (notHost o m))) s (hostStepOf s o m v) refl
-window-left end-signal s n w = picked (busy s) s (endedOf s) refl
-window-left platform-reset s n w = absurd (subst T n tt)
-window-left (window e) s n w = absurd (subst T (sym w) tt)
+window-left (Read o l) s n w = refl
+window-left (Write o l v) s n w = ap (λ (x : State). x .window) (write-effect s o l v) ∙ performed-leaves (guestWrite (seenOf s) (Write o l v)) s
+window-left (PortRead p w) s n x = refl
+window-left (PortWrite p w v) s n x = ap (λ (x : State). x .window) (port-effect s p w v) ∙ performed-leaves (guestWrite (seenOf s) (PortWrite p w v)) s
+window-left (HostUpdate o m v) s n w = ap (λ (x : State). x .window) (host-state s o m v) ∙ picked (not (either (ltb 255 o) (notHost o m))) s (hostStepOf s o m v) refl
+window-left EndSignal s n w = picked (busy s) s (endedOf s) refl
+window-left PlatformReset s n w = absurd (subst T n tt)
+window-left (InWindow e) s n w = absurd (subst T (sym w) tt)
 
 pub window-apart : Apart
 window-apart e s = let q = window-effect s e .1 in (ap (λ (x : State). x .bytes) q, ap (λ (x : State). x .latch) q, ap (λ (x : State). x .flags) q)
 
 -- an event is one of the window's, or none of them
-by-window : (P : Event → Type 0) → ((e : Event) → inWindow true (λ (w : WindowEvent). false) e ≡ true → P e) → ((w : WindowEvent) → P (window w)) → (e : Event) → P e
-by-window P out inside (read o l) = out (read o l) refl
-by-window P out inside (write o l v) = out (write o l v) refl
-by-window P out inside (port-read p w) = out (port-read p w) refl
-by-window P out inside (port-write p w v) = out (port-write p w v) refl
-by-window P out inside (host-update o m v) = out (host-update o m v) refl
-by-window P out inside end-signal = out end-signal refl
-by-window P out inside platform-reset = out platform-reset refl
-by-window P out inside (window w) = inside w
+by-window : (P : Event → Type 0) → ((e : Event) → ofWindow true (λ (w : WindowEvent). false) e ≡ true → P e) → ((w : WindowEvent) → P (InWindow w)) → (e : Event) → P e
+by-window P out inside (Read o l) = out (Read o l) refl
+by-window P out inside (Write o l v) = out (Write o l v) refl
+by-window P out inside (PortRead p w) = out (PortRead p w) refl
+by-window P out inside (PortWrite p w v) = out (PortWrite p w v) refl
+by-window P out inside (HostUpdate o m v) = out (HostUpdate o m v) refl
+by-window P out inside EndSignal = out EndSignal refl
+by-window P out inside PlatformReset = out PlatformReset refl
+by-window P out inside (InWindow w) = inside w
 
-elsewhere : {A : Type 0} (x : A) (f : WindowEvent → A) (e : Event) → inWindow true (λ (w : WindowEvent). false) e ≡ true → inWindow x f e ≡ x
-elsewhere x f (read o l) t = refl
-elsewhere x f (write o l v) t = refl
-elsewhere x f (port-read p w) t = refl
-elsewhere x f (port-write p w v) t = refl
-elsewhere x f (host-update o m v) t = refl
-elsewhere x f end-signal t = refl
-elsewhere x f platform-reset t = refl
-elsewhere x f (window w) t = absurd (subst T (sym t) tt)
+elsewhere : {A : Type 0} (x : A) (f : WindowEvent → A) (e : Event) → ofWindow true (λ (w : WindowEvent). false) e ≡ true → ofWindow x f e ≡ x
+elsewhere x f (Read o l) t = refl
+elsewhere x f (Write o l v) t = refl
+elsewhere x f (PortRead p w) t = refl
+elsewhere x f (PortWrite p w v) t = refl
+elsewhere x f (HostUpdate o m v) t = refl
+elsewhere x f EndSignal t = refl
+elsewhere x f PlatformReset t = refl
+elsewhere x f (InWindow w) t = absurd (subst T (sym t) tt)
 
 -- ---- what an event of the window makes of the registers: P, where the registers have it and the change that it comes to
 
@@ -86,19 +90,19 @@ module _ (s : State) (P : Mapped → Type 0) (same : P (s .window)) where
   unless true n r h = same
   unless false n r h = h refl
 
-  write-has : (o l v : ℕ) → P (windowWritten (s .window) o l v) → P (windowHappens (window-write o l v) s .state .window)
+  write-has : (o l v : ℕ) → P (windowWritten (s .window) o l v) → P (windowHappens (WindowWrite o l v) s .state .window)
   unfolding windowHappens windowWriteOf windowStepOf
   write-has o l v h = unless (badWindow o) WINDOW-OFFSET _ (λ a. unless (badLanes l) LANES _ (λ b. pick-has (λ (t : State). P (t .window)) (busy s) s (withWindow s (windowWritten (s .window) o l v)) same h))
 
-  complete-has : (m : ℕ) → (beyond requestMask m ≡ false → P (withAssrreq (s .window) (masked (s .window .assrreq) m 0))) → P (windowHappens (complete m) s .state .window)
+  complete-has : (m : ℕ) → (beyond requestMask m ≡ false → P (withAssrreq (s .window) (masked (s .window .assrreq) m 0))) → P (windowHappens (Complete m) s .state .window)
   unfolding windowHappens completeOf
   complete-has m h = unless (beyond requestMask m) NOT-HOST _ h
 
-  fault-has : (v : ℕ) → P (withFault (s .window) (faulted (s .window .fault) v)) → P (windowHappens (fault v) s .state .window)
+  fault-has : (v : ℕ) → P (withFault (s .window) (faulted (s .window .fault) v)) → P (windowHappens (Fault v) s .state .window)
   unfolding windowHappens faultOf
   fault-has v h = unless (beyond faultMask v) NOT-HOST _ (λ a. h)
 
-  mirror-has : (o m v : ℕ) → P (mirrored (s .window) o m v) → P (windowHappens (mirror-update o m v) s .state .window)
+  mirror-has : (o m v : ℕ) → P (mirrored (s .window) o m v) → P (windowHappens (MirrorUpdate o m v) s .state .window)
   unfolding windowHappens mirrorUpdateOf
   mirror-has o m v h = unless (badWindow o) WINDOW-OFFSET _ (λ a. unless (beyond (mirrorMask o) m) NOT-HOST _ (λ b. h))
 
@@ -127,20 +131,20 @@ clear-only o l v x n e =
 
 fault-kept : (e : WindowEvent) (s : State) → bit (s .window .fault) 0 ≡ 1 → clearing e ≡ false → windowHappens e s .state .window .fault ≡ s .window .fault
 unfolding windowHappens cyclesOf faulted
-fault-kept (window-read o l) s t n = refl
-fault-kept (window-write o l v) s t n =
+fault-kept (WindowRead o l) s t n = refl
+fault-kept (WindowWrite o l v) s t n =
     let P : Mapped → Type 0 = λ w. w .fault ≡ s .window .fault in
     write-has s P refl o l v (written-has P (s .window) refl o l v (λ e. clear-only o l v (s .window .fault) n e) refl)
-fault-kept (complete m) s t n = complete-has s (λ w. w .fault ≡ s .window .fault) refl m (λ b. refl)
-fault-kept (fault v) s t n = fault-has s (λ w. w .fault ≡ s .window .fault) refl v (rw t)
-fault-kept (add-cycles c) s t n = refl
-fault-kept (mirror-update o m v) s t n =
+fault-kept (Complete m) s t n = complete-has s (λ w. w .fault ≡ s .window .fault) refl m (λ b. refl)
+fault-kept (Fault v) s t n = fault-has s (λ w. w .fault ≡ s .window .fault) refl v (rw t)
+fault-kept (AddCycles c) s t n = refl
+fault-kept (MirrorUpdate o m v) s t n =
     let P : Mapped → Type 0 = λ w. w .fault ≡ s .window .fault in
     mirror-has s P refl o m v (mirrored-has P (s .window) refl o m v refl refl refl)
 
 pub fault-locked : Locked
 unfolding happens
-fault-locked e s t = by-window (λ e. isReset e ≡ false → inWindow false clearing e ≡ false → happens e s .state .window .fault ≡ s .window .fault) (λ e out n c. ap (λ (w : Mapped). w .fault) (window-left e s n out)) (λ w n c. fault-kept w s t c) e
+fault-locked e s t = by-window (λ e. isReset e ≡ false → ofWindow false clearing e ≡ false → happens e s .state .window .fault ≡ s .window .fault) (λ e out n c. ap (λ (w : Mapped). w .fault) (window-left e s n out)) (λ w n c. fault-kept w s t c) e
 
 -- ---- 1. the mirrors
 
@@ -152,14 +156,14 @@ masked-bit x m v n h = bit-number 32 (λ (n : ℕ). pick (eqb (bit m n) 1) (bit 
 module _ (o : ℕ) (F : Mapped → ℕ) (shows : (w : Mapped) (n : ℕ) → windowBit w o n ≡ bit (F w) n) (no-fault : (w : Mapped) (x : ℕ) → F (withFault w x) ≡ F w) (no-request : (w : Mapped) (x : ℕ) → F (withAssrreq w x) ≡ F w) (no-cycles : (w : Mapped) (x : ℕ) → F (withCycles w x) ≡ F w) (updates : (w : Mapped) (p m v : ℕ) → F (mirrored w p m v) ≡ pick (eqb p o) (masked (F w) m v) (F w)) where
   register-event : (e : WindowEvent) (s : State) (n : ℕ) → n < 32 → bit (F (windowHappens e s .state .window)) n ≡ orHeld (mirrorGives o n e) (bit (F (s .window)) n)
   unfolding windowHappens cyclesOf mirrorUpdateOf
-  register-event (window-read p l) s n h = refl
-  register-event (window-write p l v) s n h =
+  register-event (WindowRead p l) s n h = refl
+  register-event (WindowWrite p l v) s n h =
       let P : Mapped → Type 0 = λ w. bit (F w) n ≡ bit (F (s .window)) n in
       write-has s P refl p l v (written-has P (s .window) refl p l v (λ e. ap (λ (x : ℕ). bit x n) (no-fault (s .window) _)) (ap (λ (x : ℕ). bit x n) (no-request (s .window) _)))
-  register-event (complete m) s n h = complete-has s (λ w. bit (F w) n ≡ bit (F (s .window)) n) refl m (λ b. ap (λ (x : ℕ). bit x n) (no-request (s .window) _))
-  register-event (fault v) s n h = fault-has s (λ w. bit (F w) n ≡ bit (F (s .window)) n) refl v (ap (λ (x : ℕ). bit x n) (no-fault (s .window) _))
-  register-event (add-cycles c) s n h = ap (λ (x : ℕ). bit x n) (no-cycles (s .window) _)
-  register-event (mirror-update p m v) s n h = go (badWindow p) (beyond (mirrorMask p) m)
+  register-event (Complete m) s n h = complete-has s (λ w. bit (F w) n ≡ bit (F (s .window)) n) refl m (λ b. ap (λ (x : ℕ). bit x n) (no-request (s .window) _))
+  register-event (Fault v) s n h = fault-has s (λ w. bit (F w) n ≡ bit (F (s .window)) n) refl v (ap (λ (x : ℕ). bit x n) (no-fault (s .window) _))
+  register-event (AddCycles c) s n h = ap (λ (x : ℕ). bit x n) (no-cycles (s .window) _)
+  register-event (MirrorUpdate p m v) s n h = go (badWindow p) (beyond (mirrorMask p) m)
     where
       given-there : (a b : Bool) (x : ℕ) → pick a (pick b (bit v n) x) x ≡ orHeld (pick (both a b) (given (bit v n)) nothing) x
       given-there true true x = refl
@@ -180,10 +184,10 @@ module _ (o : ℕ) (F : Mapped → ℕ) (shows : (w : Mapped) (n : ℕ) → wind
 
   mirror-history : (n : ℕ) → n < 32 → bit (F freshWindow) n ≡ 0 → (es : List Event) → windowBit (run es .window) o n ≡ mirrorBit o n es
   unfolding freshOf happens
-  mirror-history n h z es = shows (run es .window) n ∙ history isReset next freshOf reset-forgets (λ s. bit (F (s .window)) n) (λ s. Unit {0}) (inWindow nothing (mirrorGives o n)) event (λ e s r t. tt) tt es ∙ ap (orHeld (lastGiven (inWindow nothing (mirrorGives o n)) (since es))) z
+  mirror-history n h z es = shows (run es .window) n ∙ history isReset next freshOf reset-forgets (λ s. bit (F (s .window)) n) (λ s. Unit {0}) (ofWindow nothing (mirrorGives o n)) event (λ e s r t. tt) tt es ∙ ap (orHeld (lastGiven (ofWindow nothing (mirrorGives o n)) (since es))) z
     where
-      event : (e : Event) (s : State) → isReset e ≡ false → Unit {0} → bit (F (happens e s .state .window)) n ≡ orHeld (inWindow nothing (mirrorGives o n) e) (bit (F (s .window)) n)
-      event e s = by-window (λ e. isReset e ≡ false → Unit {0} → bit (F (happens e s .state .window)) n ≡ orHeld (inWindow nothing (mirrorGives o n) e) (bit (F (s .window)) n)) (λ e out r t. ap (λ (w : Mapped). bit (F w) n) (window-left e s r out) ∙ rw (elsewhere nothing (mirrorGives o n) e out)) (λ w r t. register-event w s n h) e
+      event : (e : Event) (s : State) → isReset e ≡ false → Unit {0} → bit (F (happens e s .state .window)) n ≡ orHeld (ofWindow nothing (mirrorGives o n) e) (bit (F (s .window)) n)
+      event e s = by-window (λ e. isReset e ≡ false → Unit {0} → bit (F (happens e s .state .window)) n ≡ orHeld (ofWindow nothing (mirrorGives o n) e) (bit (F (s .window)) n)) (λ e out r t. ap (λ (w : Mapped). bit (F w) n) (window-left e s r out) ∙ rw (elsewhere nothing (mirrorGives o n) e out)) (λ w r t. register-event w s n h) e
 
 -- each mirror is changed where the update is its own
 another : (p x y : ℕ) → eqb x y ≡ false → eqb p x ≡ true → eqb p y ≡ true → ⊥
@@ -275,20 +279,20 @@ uncounted x y e = (ap (λ (z : ℕ). z % 2 ^ 32) (e ∙ sym (add-zero y)), λ h.
 
 sum-event : (e : WindowEvent) (s : State) → Added (windowHappens e s .state .window .cycles) (s .window .cycles) (counted e)
 unfolding windowHappens cyclesOf
-sum-event (window-read o l) s = uncounted _ _ refl
-sum-event (window-write o l v) s =
+sum-event (WindowRead o l) s = uncounted _ _ refl
+sum-event (WindowWrite o l v) s =
     let P : Mapped → Type 0 = λ w. w .cycles ≡ s .window .cycles in
     uncounted _ _ (write-has s P refl o l v (written-has P (s .window) refl o l v (λ e. refl) refl))
-sum-event (complete m) s = uncounted _ _ (complete-has s (λ w. w .cycles ≡ s .window .cycles) refl m (λ b. refl))
-sum-event (fault v) s = uncounted _ _ (fault-has s (λ w. w .cycles ≡ s .window .cycles) refl v refl)
-sum-event (add-cycles n) s = (omega arith, λ h. omega arith)
-sum-event (mirror-update o m v) s =
+sum-event (Complete m) s = uncounted _ _ (complete-has s (λ w. w .cycles ≡ s .window .cycles) refl m (λ b. refl))
+sum-event (Fault v) s = uncounted _ _ (fault-has s (λ w. w .cycles ≡ s .window .cycles) refl v refl)
+sum-event (AddCycles n) s = (omega arith, λ h. omega arith)
+sum-event (MirrorUpdate o m v) s =
     let P : Mapped → Type 0 = λ w. w .cycles ≡ s .window .cycles in
     uncounted _ _ (mirror-has s P refl o m v (mirrored-has P (s .window) refl o m v refl refl refl))
 
-sum-next : (e : Event) (s : State) → isReset e ≡ false → Added (happens e s .state .window .cycles) (s .window .cycles) (inWindow 0 counted e)
+sum-next : (e : Event) (s : State) → isReset e ≡ false → Added (happens e s .state .window .cycles) (s .window .cycles) (ofWindow 0 counted e)
 unfolding happens
-sum-next e s = by-window (λ e. isReset e ≡ false → Added (happens e s .state .window .cycles) (s .window .cycles) (inWindow 0 counted e)) (λ e out r. rw (elsewhere 0 counted e out) (uncounted _ _ (ap (λ (w : Mapped). w .cycles) (window-left e s r out)))) (λ w r. sum-event w s) e
+sum-next e s = by-window (λ e. isReset e ≡ false → Added (happens e s .state .window .cycles) (s .window .cycles) (ofWindow 0 counted e)) (λ e out r. rw (elsewhere 0 counted e out) (uncounted _ _ (ap (λ (w : Mapped). w .cycles) (window-left e s r out)))) (λ w r. sum-event w s) e
 
 more : (z x y c t : ℕ) → Added z x t → Added x y c → Added z y (c + t)
 more z x y c t f e = (f .0 ∙ omega (arith, e .0), λ h. f .1 (e .1 h))
@@ -296,7 +300,7 @@ more z x y c t f e = (f .0 ∙ omega (arith, e .0), λ h. f .1 (e .1 h))
 sum-from : (es : List Event) (s : State) → anyReset es ≡ false → Added (runFrom s es .window .cycles) (s .window .cycles) (total es)
 unfolding ran P.anyReset total
 sum-from [] s n = uncounted _ _ refl
-sum-from (e ∷ es) s n = more _ _ _ (inWindow 0 counted e) (total es) (sum-from es (happens e s .state) (either-right (isReset e) (anyReset es) n)) (sum-next e s (either-left (isReset e) (anyReset es) n))
+sum-from (e ∷ es) s n = more _ _ _ (ofWindow 0 counted e) (total es) (sum-from es (happens e s .state) (either-right (isReset e) (anyReset es) n)) (sum-next e s (either-left (isReset e) (anyReset es) n))
 
 pub cycle-sum : Sum
 unfolding freshOf
@@ -321,18 +325,18 @@ module _ (n : ℕ) (low : 4 ≤ n) (h : n < 32) where
 
   request-event : (e : WindowEvent) (s : State) → Clear (s .window) → Clear (windowHappens e s .state .window)
   unfolding windowHappens cyclesOf
-  request-event (window-read o l) s z = z
-  request-event (window-write o l v) s z = write-has s Clear z o l v (written-has Clear (s .window) z o l v (λ e. z) (requested-above (s .window .assrreq) l v z))
-  request-event (complete m) s z = complete-has s Clear z m (λ b. masked-bit (s .window .assrreq) m 0 n h ∙ pick-has (λ (y : ℕ). y ≡ 0) (eqb (bit m n) 1) (bit 0 n) (bit (s .window .assrreq) n) (bit-zero n) z)
-  request-event (fault v) s z = fault-has s Clear z v z
-  request-event (add-cycles c) s z = z
-  request-event (mirror-update o m v) s z = mirror-has s Clear z o m v (mirrored-has Clear (s .window) z o m v z z z)
+  request-event (WindowRead o l) s z = z
+  request-event (WindowWrite o l v) s z = write-has s Clear z o l v (written-has Clear (s .window) z o l v (λ e. z) (requested-above (s .window .assrreq) l v z))
+  request-event (Complete m) s z = complete-has s Clear z m (λ b. masked-bit (s .window .assrreq) m 0 n h ∙ pick-has (λ (y : ℕ). y ≡ 0) (eqb (bit m n) 1) (bit 0 n) (bit (s .window .assrreq) n) (bit-zero n) z)
+  request-event (Fault v) s z = fault-has s Clear z v z
+  request-event (AddCycles c) s z = z
+  request-event (MirrorUpdate o m v) s z = mirror-has s Clear z o m v (mirrored-has Clear (s .window) z o m v z z z)
 
   request-next : (e : Event) (s : State) → Clear (s .window) → Clear (happens e s .state .window)
   unfolding happens freshOf
   request-next e s z = by-window (λ e. Clear (happens e s .state .window)) (λ e out. go e out (isReset e) refl) (λ w. request-event w s z) e
     where
-      go : (e : Event) → inWindow true (λ (w : WindowEvent). false) e ≡ true → (b : Bool) → isReset e ≡ b → Clear (happens e s .state .window)
+      go : (e : Event) → ofWindow true (λ (w : WindowEvent). false) e ≡ true → (b : Bool) → isReset e ≡ b → Clear (happens e s .state .window)
       go e out true r = rw (reset-forgets e s r) (bit-zero n)
       go e out false r = subst Clear (sym (window-left e s r out)) z
 

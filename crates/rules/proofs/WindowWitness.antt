@@ -2,7 +2,7 @@
 use mathlib.Core.Path.{_≡_, refl}
 use mathlib.Core.List.{List, [], _∷_}
 use Rattle.bits.specs.Bits.{numberOf}
-use Rattle.answer.specs.Refusals.{ok, no, LANES, NOT-HOST, WINDOW-OFFSET}
+use Rattle.answer.specs.Refusals.{fine, ok, no, LANES, NOT-HOST, WINDOW-OFFSET}
 use Rattle.map.specs.Registers.{PCICMD2, GTTMMADR, AFCTL}
 use Rattle.map.specs.Map.{rows, rowAt, classOf, defaults}
 use Rattle.rules.specs.Access.{enabled, byteFor}
@@ -12,45 +12,48 @@ use Rattle.rules.specs.Fresh.{freshOf}
 use Rattle.rules.specs.Past.{ran, anyReset, since, lastGiven}
 use Rattle.rules.specs.Claims.{claimed, translation, base, memoryClaimOf}
 use Rattle.rules.specs.Window.{FAULT-REG, ASSRREQ, MTOUUD-HIGH, MBDSM, DRAM-CYCLES, windowBit, windowReadBit, windowReadOf, requested, acknowledged, windowWritten, windowStepOf, windowWriteOf, beyond, masked, completeOf, recorded, faulted, faultOf, cyclesOf, mirrorMask, mirrored, mirrorUpdateOf}
-use Rattle.rules.specs.Events.{window-read, window-write, complete, fault, add-cycles, mirror-update, windowHappens, Event, write, end-signal, platform-reset, window, happens, run}
+use Rattle.rules.specs.declared.WindowEvent.the-variants.{WindowRead, WindowWrite, Complete, Fault, AddCycles, MirrorUpdate}
+use Rattle.rules.specs.declared.Event.{Event}
+use Rattle.rules.specs.declared.Event.the-variants.{Write, EndSignal, PlatformReset, InWindow}
+use Rattle.rules.specs.Events.{windowHappens, happens, run}
 use Rattle.rules.specs.WindowRuns.{mirrorBit, total}
 
 -- ---- the runs
 
 -- MBDSM is updated twice, the second time in its lock alone, with a guest write in between, and a function reset
 abbrev reflected : List Event
-reflected = window (mirror-update MBDSM 0xFFF00001 0x9AB00000) ∷ window (window-write MBDSM 15 0) ∷ write AFCTL 1 1 ∷ end-signal ∷ window (mirror-update MBDSM 1 0xFFFFFFFF) ∷ []
+reflected = InWindow (MirrorUpdate MBDSM 0xFFF00001 0x9AB00000) ∷ InWindow (WindowWrite MBDSM 15 0) ∷ Write AFCTL 1 1 ∷ EndSignal ∷ InWindow (MirrorUpdate MBDSM 1 0xFFFFFFFF) ∷ []
 
 -- two faults, and a third after a write that clears the first
 abbrev faults : List Event
-faults = window (fault 0x1152) ∷ window (fault 0x4008) ∷ []
+faults = InWindow (Fault 0x1152) ∷ InWindow (Fault 0x4008) ∷ []
 
 abbrev cleared : List Event
-cleared = window (fault 0x1152) ∷ window (window-write FAULT-REG 1 0) ∷ window (fault 0x4008) ∷ []
+cleared = InWindow (Fault 0x1152) ∷ InWindow (WindowWrite FAULT-REG 1 0) ∷ InWindow (Fault 0x4008) ∷ []
 
 -- requests: without a mask, with it, with its lane not enabled; one is completed
 abbrev asked : List Event
-asked = window (window-write ASSRREQ 15 0x00000001) ∷ window (window-write ASSRREQ 15 0x00060006) ∷ window (window-write ASSRREQ 11 0x00080008) ∷ window (complete 4) ∷ []
+asked = InWindow (WindowWrite ASSRREQ 15 0x00000001) ∷ InWindow (WindowWrite ASSRREQ 15 0x00060006) ∷ InWindow (WindowWrite ASSRREQ 11 0x00080008) ∷ InWindow (Complete 4) ∷ []
 
 -- the sum wraps
 abbrev summed : List Event
-summed = window (add-cycles 0xFFFFFFFF) ∷ window (add-cycles 3) ∷ []
+summed = InWindow (AddCycles 0xFFFFFFFF) ∷ InWindow (AddCycles 3) ∷ []
 
 -- while busy a guest write is dropped and the host's changes are not
 abbrev busied : List Event
-busied = write AFCTL 1 1 ∷ window (window-write ASSRREQ 15 0x00010001) ∷ window (add-cycles 7) ∷ []
+busied = Write AFCTL 1 1 ∷ InWindow (WindowWrite ASSRREQ 15 0x00010001) ∷ InWindow (AddCycles 7) ∷ []
 
 -- a fault and a completion that the host gives while busy
 abbrev served : List Event
-served = window (window-write ASSRREQ 15 0x00010001) ∷ write AFCTL 1 1 ∷ window (fault 0x1152) ∷ window (complete 1) ∷ end-signal ∷ []
+served = InWindow (WindowWrite ASSRREQ 15 0x00010001) ∷ Write AFCTL 1 1 ∷ InWindow (Fault 0x1152) ∷ InWindow (Complete 1) ∷ EndSignal ∷ []
 
 -- a fault is not cleared by a write of ones
 abbrev uncleared : List Event
-uncleared = window (fault 0x1152) ∷ window (window-write FAULT-REG 1 1) ∷ []
+uncleared = InWindow (Fault 0x1152) ∷ InWindow (WindowWrite FAULT-REG 1 1) ∷ []
 
 -- GTTMMADR is placed
 abbrev placed : List Event
-placed = write GTTMMADR 15 0xF7800000 ∷ write PCICMD2 1 2 ∷ []
+placed = Write GTTMMADR 15 0xF7800000 ∷ Write PCICMD2 1 2 ∷ []
 
 -- ---- what they come to
 
@@ -70,16 +73,16 @@ pub record Witnessed : Type 0 where
   pub busied-ended : windowReadOf (endOf (run busied)) ASSRREQ 15 ≡ ok 0
   pub busied-sum : windowReadOf (endOf (run busied)) DRAM-CYCLES 15 ≡ ok 7
   pub placed-claim : memoryClaimOf (run placed) 0xF780810C ≡ claimed translation ASSRREQ
-  pub reset-read : windowReadOf (happens platform-reset (run reflected) .state) MBDSM 15 ≡ ok 0
+  pub reset-read : windowReadOf (happens PlatformReset (run reflected) .state) MBDSM 15 ≡ ok 0
   -- refusals in their order
-  pub offset-first : happens (window (window-read 0x400000 16)) freshOf .reply ≡ no WINDOW-OFFSET
-  pub then-lanes : happens (window (window-write MBDSM 16 0)) freshOf .reply ≡ no LANES
-  pub update-offset-first : happens (window (mirror-update 0x108082 0xFFFFFFFF 0)) freshOf .reply ≡ no WINDOW-OFFSET
-  pub update-outside : happens (window (mirror-update MTOUUD-HIGH 0x80 0)) freshOf .reply ≡ no NOT-HOST
-  pub update-of-none : happens (window (mirror-update DRAM-CYCLES 1 1)) freshOf .reply ≡ no NOT-HOST
-  pub mask-0-of-none : happens (window (mirror-update DRAM-CYCLES 0 1)) freshOf .reply ≡ ok 0
-  pub complete-outside : happens (window (complete 0x10)) freshOf .reply ≡ no NOT-HOST
-  pub fault-outside : happens (window (fault 1)) freshOf .reply ≡ no NOT-HOST
+  pub offset-first : happens (InWindow (WindowRead 0x400000 16)) freshOf .reply ≡ no WINDOW-OFFSET
+  pub then-lanes : happens (InWindow (WindowWrite MBDSM 16 0)) freshOf .reply ≡ no LANES
+  pub update-offset-first : happens (InWindow (MirrorUpdate 0x108082 0xFFFFFFFF 0)) freshOf .reply ≡ no WINDOW-OFFSET
+  pub update-outside : happens (InWindow (MirrorUpdate MTOUUD-HIGH 0x80 0)) freshOf .reply ≡ no NOT-HOST
+  pub update-of-none : happens (InWindow (MirrorUpdate DRAM-CYCLES 1 1)) freshOf .reply ≡ no NOT-HOST
+  pub mask-0-of-none : happens (InWindow (MirrorUpdate DRAM-CYCLES 0 1)) freshOf .reply ≡ fine
+  pub complete-outside : happens (InWindow (Complete 0x10)) freshOf .reply ≡ no NOT-HOST
+  pub fault-outside : happens (InWindow (Fault 1)) freshOf .reply ≡ no NOT-HOST
   pub elsewhere : windowReadOf (run reflected) 0x108088 15 ≡ ok 0
 
 pub witnessed : Witnessed

@@ -15,7 +15,9 @@ use Rattle.rules.specs.Host.{notHost, hostBit, hostStepOf, hostOf}
 use Rattle.rules.specs.Fresh.{freshOf}
 use Rattle.rules.specs.Ports.{notOurs, otherFunction, latchOf, portLanes, portValue, portReadOf, portWriteOf}
 use Rattle.rules.specs.Claims.{base, apertureBase}
-use Rattle.rules.specs.Events.{Event, write, port-read, port-write, host-update, end-signal, platform-reset, happens, run}
+use Rattle.rules.specs.declared.Event.{Event}
+use Rattle.rules.specs.declared.Event.the-variants.{Write, PortRead, PortWrite, HostUpdate, EndSignal, PlatformReset}
+use Rattle.rules.specs.Events.{happens, run}
 use Rattle.rules.specs.History.{none, at, acceptedWrite, seen, firstFrom, firstWrite, gives, lastUpdate}
 use Rattle.rules.specs.Past.{nothing, given, ran, anyReset, since, lastGiven}
 use Rattle.rules.specs.Demand3.{codeOf}
@@ -24,51 +26,51 @@ use Rattle.rules.specs.Demand3.{codeOf}
 
 -- SVID2 in halves, with a function reset in between, and a second write; SID2 is written only while busy, and a driver's command bits return to default
 abbrev halves : List Event
-halves = write SVID2 1 0x34 ∷ write PCICMD2 1 7 ∷ write AFCTL 1 1 ∷ write SVID2 12 0x56780000 ∷ end-signal ∷ write SVID2 2 0x1200 ∷ write SVID2 3 0xFFFF ∷ []
+halves = Write SVID2 1 0x34 ∷ Write PCICMD2 1 7 ∷ Write AFCTL 1 1 ∷ Write SVID2 12 0x56780000 ∷ EndSignal ∷ Write SVID2 2 0x1200 ∷ Write SVID2 3 0xFFFF ∷ []
 
 -- the function reset is started, through the port pair, and not ended: writes are dropped, the host's updates are not
 abbrev started : List Event
-started = write PCICMD2 1 7 ∷ port-write 0xCF8 4 0x800010A8 ∷ port-write 0xCFC 1 1 ∷ write PCICMD2 1 0 ∷ host-update DID2 0xFF 0x11 ∷ []
+started = Write PCICMD2 1 7 ∷ PortWrite 0xCF8 4 0x800010A8 ∷ PortWrite 0xCFC 1 1 ∷ Write PCICMD2 1 0 ∷ HostUpdate DID2 0xFF 0x11 ∷ []
 
 -- a platform reset opens both fields again; a write through the port pair closes them, and a later one finds them closed
 abbrev ports : List Event
-ports = write SVID2 15 0x11112222 ∷ platform-reset ∷ port-write 0xCF8 4 0x8000102C ∷ port-write 0xCFC 4 0xABCD1234 ∷ write SVID2 15 0 ∷ []
+ports = Write SVID2 15 0x11112222 ∷ PlatformReset ∷ PortWrite 0xCF8 4 0x8000102C ∷ PortWrite 0xCFC 4 0xABCD1234 ∷ Write SVID2 15 0 ∷ []
 
 -- SWSCI bit 15 is closed by a write of its default; bits 14:0 stay open
 abbrev default : List Event
-default = write SWSCI 2 0 ∷ write SWSCI 15 0x8001 ∷ []
+default = Write SWSCI 2 0 ∷ Write SWSCI 15 0x8001 ∷ []
 
 -- DID2 is updated twice, the second time in its low bits only; VID2 is neither the guest's nor the host's
 abbrev twice : List Event
-twice = host-update DID2 0xFF 0x11 ∷ write VID2 15 0xFFFFFFFF ∷ host-update DID2 0x0F 0x02 ∷ host-update VID2 0x01 0 ∷ []
+twice = HostUpdate DID2 0xFF 0x11 ∷ Write VID2 15 0xFFFFFFFF ∷ HostUpdate DID2 0x0F 0x02 ∷ HostUpdate VID2 0x01 0 ∷ []
 
 -- and a platform reset takes the updates back
 abbrev taken-back : List Event
-taken-back = host-update DID2 0xFF 0x11 ∷ platform-reset ∷ []
+taken-back = HostUpdate DID2 0xFF 0x11 ∷ PlatformReset ∷ []
 
 -- CAPL's bit
 abbrev listed : List Event
-listed = write 0x7C 8 0x01000000 ∷ []
+listed = Write 0x7C 8 0x01000000 ∷ []
 
 -- a base of ones, then 512 MB, which takes two bits; a write of code 10 keeps 11
 abbrev enlarged : List Event
-enlarged = write GMADR 15 0xFFFFFFFF ∷ write HSRW 4 0x00060000 ∷ write HSRW 4 0x00040000 ∷ write GMADR 15 0xFFFFFFFF ∷ []
+enlarged = Write GMADR 15 0xFFFFFFFF ∷ Write HSRW 4 0x00060000 ∷ Write HSRW 4 0x00040000 ∷ Write GMADR 15 0xFFFFFFFF ∷ []
 
 -- bit 15 of SWSCI is not closed by byte E8
 abbrev beside : List Event
-beside = write SWSCI 1 1 ∷ write SWSCI 2 0x8000 ∷ []
+beside = Write SWSCI 1 1 ∷ Write SWSCI 2 0x8000 ∷ []
 
 -- lanes 0 close nothing
 abbrev unlaned : List Event
-unlaned = write SVID2 0 0xFFFF ∷ write SVID2 3 0x1234 ∷ []
+unlaned = Write SVID2 0 0xFFFF ∷ Write SVID2 3 0x1234 ∷ []
 
 -- the power state goes to 11, 10 and 01 leave it there, and nothing else changes
 abbrev powered : List Event
-powered = write PCICMD2 1 7 ∷ write 0xD4 1 3 ∷ write 0xD4 1 2 ∷ write 0xD4 1 1 ∷ []
+powered = Write PCICMD2 1 7 ∷ Write 0xD4 1 3 ∷ Write 0xD4 1 2 ∷ Write 0xD4 1 1 ∷ []
 
 -- the latch stays through a function reset
 abbrev latching : List Event
-latching = port-write 0xCF8 4 0x80001000 ∷ write AFCTL 1 1 ∷ end-signal ∷ []
+latching = PortWrite 0xCF8 4 0x80001000 ∷ Write AFCTL 1 1 ∷ EndSignal ∷ []
 
 -- ---- what they come to
 
@@ -99,24 +101,24 @@ pub record Witnessed : Type 0 where
   pub powered-read : readOf (run powered) 0xD4 15 ≡ ok 0x00000003
   pub powered-other : readOf (run powered) PCICMD2 15 ≡ ok 0x00900007
   -- 5. refused events
-  pub offset-refused : happens (write 0x2D 15 1) freshOf .reply ≡ no OFFSET
-  pub update-refused : happens (host-update VID2 0x01 0) freshOf .reply ≡ no NOT-HOST
-  pub port-refused : happens (port-write 0xCFC 4 1) (run (port-write 0xCF8 4 0x80001800 ∷ [])) .reply ≡ no OTHER-FUNCTION
-  pub function-refused : happens (port-read 0xCFC 4) (run (port-write 0xCF8 4 0x80001400 ∷ [])) .reply ≡ no OTHER-FUNCTION
-  pub value-refused : happens (port-read 0xCFC 4) freshOf .reply ≡ no NOT-OURS
+  pub offset-refused : happens (Write 0x2D 15 1) freshOf .reply ≡ no OFFSET
+  pub update-refused : happens (HostUpdate VID2 0x01 0) freshOf .reply ≡ no NOT-HOST
+  pub port-refused : happens (PortWrite 0xCFC 4 1) (run (PortWrite 0xCF8 4 0x80001800 ∷ [])) .reply ≡ no OTHER-FUNCTION
+  pub function-refused : happens (PortRead 0xCFC 4) (run (PortWrite 0xCF8 4 0x80001400 ∷ [])) .reply ≡ no OTHER-FUNCTION
+  pub value-refused : happens (PortRead 0xCFC 4) freshOf .reply ≡ no NOT-OURS
   -- 6. busy
   pub started-busy : seen started .busy ≡ true
   pub started-read : readOf (run started) VID2 5 ≡ ok 0xFFFFFFFF
   pub started-held : byte (run started) PCICMD2 ≡ 7
   pub started-given : byte (run started) DID2 ≡ 0x11
   pub ended-busy : seen halves .busy ≡ false
-  pub latching-read : happens (port-read 0xCF8 4) (run latching) .reply ≡ ok 0x80001000
+  pub latching-read : happens (PortRead 0xCF8 4) (run latching) .reply ≡ ok 0x80001000
   -- lanes that are not enabled, and the same bytes through the port pair
   pub split-read : readOf freshOf VID2 5 ≡ ok 0xFF52FF86
   pub high-read : readOf freshOf VID2 12 ≡ ok 0x0152FFFF
   pub none-read : readOf freshOf VID2 0 ≡ ok 0xFFFFFFFF
   pub refused-read : readOf freshOf VID2 16 ≡ no LANES
-  pub port-read-high : happens (port-read 0xCFE 2) (run (port-write 0xCF8 4 0x80001000 ∷ [])) .reply ≡ ok 0x0152
+  pub port-read-high : happens (PortRead 0xCFE 2) (run (PortWrite 0xCF8 4 0x80001000 ∷ [])) .reply ≡ ok 0x0152
 
 pub witnessed : Witnessed
 unfolding numberOf rows rowAt classOf defaults enabled byteFor bitsTaken takenBy takes store clear starts storedBit sizeAfter bitAfter ofField touches flagsAfter writtenOf stepOf writeOf reset endedBit endedOf endOf pointer shownBit readBit readValue readOf notHost hostBit hostStepOf hostOf freshOf notOurs otherFunction latchOf portLanes portValue portReadOf portWriteOf base happens ran anyReset since acceptedWrite firstFrom gives lastGiven

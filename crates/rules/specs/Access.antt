@@ -5,7 +5,10 @@ use Prim.Native.Nat.{ℕ, _+_, _-_, _/_, _%_, _^_}
 use lib.ListN.{getD}
 use Rattle.bits.specs.Bits.{bit}
 use Rattle.bits.specs.Choice.{if_then_else_, _and_, _or_, _is_, _≤?_, _<?_}
-use Rattle.answer.specs.Refusals.{Reply, ok, no, LANES}
+use Rattle.answer.specs.Refusals.{Reply, fine, ok, no, LANES}
+use Rattle.answer.specs.Said.{numberOf}
+use Rattle.rules.specs.declared.Admitted.{Admitted}
+use Rattle.rules.specs.declared.Admitted.the-variants as A
 use Rattle.rules.specs.declared.State.{State}
 use Rattle.rules.specs.declared.Flags.{Flags}
 
@@ -49,22 +52,27 @@ pub record Outcome : Type 0 where
   pub state : State
 
 abbrev pub done : State → Outcome
-done s = record { reply = ok 0; state = s }
+done s = record { reply = fine; state = s }
 
 -- a refusal leaves the state unchanged
 abbrev pub refused : ℕ → State → Outcome
 refused n s = record { reply = no n; state = s }
 
--- ---- an access with lanes l: refused with n where its offset is bad, and then for its lanes
+-- ---- an access with lanes l: refused with n where its offset is bad, and then for its lanes; else it is made
+
+abbrev pub admit : {A : Type 0} → Bool → ℕ → ℕ → (ℕ → A) → A → A
+admit bad n l refuse made =
+    if bad then refuse n
+    else if badLanes l then refuse LANES
+    else made
 
 abbrev pub replyAt : Bool → ℕ → ℕ → ℕ → Reply
-replyAt bad n l value =
-    if bad then no n
-    else if badLanes l then no LANES
-    else ok value
+replyAt bad n l value = admit bad n l no (ok value)
 
 abbrev pub outcomeAt : Bool → ℕ → ℕ → State → State → Outcome
-outcomeAt bad n l s after =
-    if bad then refused n s
-    else if badLanes l then refused LANES s
-    else done after
+outcomeAt bad n l s after = admit bad n l (λ (n : ℕ). refused n s) (done after)
+
+-- what the code asks first
+abbrev pub admits : Admitted → Reply
+admits A.Yes = fine
+admits (A.No r) = no (numberOf r)

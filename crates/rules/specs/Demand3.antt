@@ -6,7 +6,7 @@ use mathlib.Core.Bool.{true, false}
 use Prim.Native.Nat.{ℕ, _+_, _*_, _/_, _%_, _^_, _<_}
 use Rattle.bits.specs.Bits.{bit, numberOf, byteOf}
 use Rattle.bits.specs.Choice.{if_then_else_, _is_}
-use Rattle.answer.specs.Refusals.{ok}
+use Rattle.answer.specs.Refusals.{number, value, ok}
 use Rattle.map.specs.Registers.{SVID2, SID2, CAPPOINT, CAPL, MSAC, AFCTL, SWSCI}
 use Rattle.map.specs.Class.{Field, svid2, sid2, swsci15, resetStart, stores, hasF, sameClass}
 use Rattle.map.specs.Map.{classOf, defaultAt}
@@ -18,7 +18,10 @@ use Rattle.rules.specs.Plain.{readReply, shownValue}
 use Rattle.rules.specs.Reset.{endOf}
 use Rattle.rules.specs.Ports.{atLatch, portValue, portWriteOf}
 use Rattle.rules.specs.Claims.{apertureBase, unclaimed, memoryClaimOf, ioClaimOf}
-use Rattle.rules.specs.Events.{window-read, Event, read, port-read, window, happens, run}
+use Rattle.rules.specs.declared.WindowEvent.the-variants.{WindowRead}
+use Rattle.rules.specs.declared.Event.{Event}
+use Rattle.rules.specs.declared.Event.the-variants.{Read, PortRead, InWindow}
+use Rattle.rules.specs.Events.{happens, run}
 use Rattle.rules.specs.History.{seen, bitOf, firstWrite, overDefault, lastUpdate, orDefault}
 
 -- 1. Since the last platform reset, or the start, each write-once field holds its default until the first accepted guest write to this
@@ -48,10 +51,10 @@ Aperture = (es : List Event) → (codeOf es ≡ 2 → ⊥) × ((q : ℕ) × (ape
 
 -- 5. A refused event has zero beside its number and changes nothing; a read changes nothing. In every state, of foreign making too.
 abbrev pub Refused : Type 0
-Refused = (e : Event) (s : State) → (happens e s .reply .number ≡ 0 → ⊥) → (happens e s .reply .value ≡ 0) × (happens e s .state ≡ s)
+Refused = (e : Event) (s : State) → (number (happens e s .reply) ≡ 0 → ⊥) → (value (happens e s .reply) ≡ 0) × (happens e s .state ≡ s)
 
 abbrev pub Reads : Type 0
-Reads = (s : State) (a b : ℕ) → (happens (read a b) s .state ≡ s) × (happens (port-read a b) s .state ≡ s) × (happens (window (window-read a b)) s .state ≡ s)
+Reads = (s : State) (a b : ℕ) → (happens (Read a b) s .state ≡ s) × (happens (PortRead a b) s .state ≡ s) × (happens (InWindow (WindowRead a b)) s .state ≡ s)
 
 -- 6. The state is busy exactly from an accepted guest write that starts a function reset, and was not dropped, until an end signal or a platform reset.
 abbrev pub Busy : Type 0

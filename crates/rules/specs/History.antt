@@ -11,19 +11,20 @@ use Rattle.rules.specs.Past.{Given, nothing, orHeld, lastGiven}
 use Rattle.rules.specs.Plain.{updateGives}
 use Rattle.rules.specs.Access.{enabled, byteFor}
 use Rattle.rules.specs.Ports.{latchOf, portLanes, placed}
-use Rattle.rules.specs.Events.{Event, read, write, port-read, port-write, host-update, end-signal, platform-reset, window}
+use Rattle.rules.specs.declared.Event.{Event}
+use Rattle.rules.specs.declared.Event.the-variants.{Read, Write, PortRead, PortWrite, HostUpdate, EndSignal, PlatformReset, InWindow}
 
 -- ---- the events since the last platform reset, or the start
 
 abbrev pub isReset : Event → Bool
-isReset (read o l) = false
-isReset (write o l v) = false
-isReset (port-read p w) = false
-isReset (port-write p w v) = false
-isReset (host-update o m v) = false
-isReset end-signal = false
-isReset platform-reset = true
-isReset (window e) = false
+isReset (Read o l) = false
+isReset (Write o l v) = false
+isReset (PortRead p w) = false
+isReset (PortWrite p w v) = false
+isReset (HostUpdate o m v) = false
+isReset EndSignal = false
+isReset PlatformReset = true
+isReset (InWindow e) = false
 
 abbrev pub anyReset : List Event → Bool
 anyReset es = P.anyReset isReset es
@@ -34,14 +35,14 @@ since es = P.since isReset es
 -- ---- the port latch, by the accepted writes to CF8h
 
 abbrev pub latchAfter : ℕ → Event → ℕ
-latchAfter x (read o l) = x
-latchAfter x (write o l v) = x
-latchAfter x (port-read p w) = x
-latchAfter x (port-write p w v) = if p is 0xCF8 and w is 4 then latchOf v else x
-latchAfter x (host-update o m v) = x
-latchAfter x end-signal = x
-latchAfter x platform-reset = 0
-latchAfter x (window e) = x
+latchAfter x (Read o l) = x
+latchAfter x (Write o l v) = x
+latchAfter x (PortRead p w) = x
+latchAfter x (PortWrite p w v) = if p is 0xCF8 and w is 4 then latchOf v else x
+latchAfter x (HostUpdate o m v) = x
+latchAfter x EndSignal = x
+latchAfter x PlatformReset = 0
+latchAfter x (InWindow e) = x
 
 -- ---- accepted guest writes to this function, by dword or through the port pair
 
@@ -60,16 +61,16 @@ data-access x p w = (w is 1 or w is 2 or w is 4) and 0xCFC ≤? p and p + w ≤?
 
 -- the guest write that an event comes to, where the latch holds x
 unfoldable pub acceptedWrite : ℕ → Event → GuestWrite
-acceptedWrite x (read o l) = none
-acceptedWrite x (write o l v) = if direct o l then at o l v else none
-acceptedWrite x (port-read p w) = none
-acceptedWrite x (port-write p w v) =
+acceptedWrite x (Read o l) = none
+acceptedWrite x (Write o l v) = if direct o l then at o l v else none
+acceptedWrite x (PortRead p w) = none
+acceptedWrite x (PortWrite p w v) =
     if data-access x p w then at (field x 7 2 * 4) (portLanes (p - 0xCFC) w) (placed v (p - 0xCFC) w)
     else none
-acceptedWrite x (host-update o m v) = none
-acceptedWrite x end-signal = none
-acceptedWrite x platform-reset = none
-acceptedWrite x (window e) = none
+acceptedWrite x (HostUpdate o m v) = none
+acceptedWrite x EndSignal = none
+acceptedWrite x PlatformReset = none
+acceptedWrite x (InWindow e) = none
 
 -- ---- what the events so far tell: the latch, and whether a function reset is under way
 
@@ -95,14 +96,14 @@ starting (at o l v) = enabled o l 0xA8 and bit (byteFor o v 0xA8) 0 is 1
 
 -- from a write that starts a function reset until the end signal, or a platform reset
 abbrev pub busyAfter : Seen → Event → Bool
-busyAfter x (read o l) = x .busy
-busyAfter x (write o l v) = starting (guestWrite x (write o l v)) or x .busy
-busyAfter x (port-read p w) = x .busy
-busyAfter x (port-write p w v) = starting (guestWrite x (port-write p w v)) or x .busy
-busyAfter x (host-update o m v) = x .busy
-busyAfter x end-signal = false
-busyAfter x platform-reset = false
-busyAfter x (window e) = x .busy
+busyAfter x (Read o l) = x .busy
+busyAfter x (Write o l v) = starting (guestWrite x (Write o l v)) or x .busy
+busyAfter x (PortRead p w) = x .busy
+busyAfter x (PortWrite p w v) = starting (guestWrite x (PortWrite p w v)) or x .busy
+busyAfter x (HostUpdate o m v) = x .busy
+busyAfter x EndSignal = false
+busyAfter x PlatformReset = false
+busyAfter x (InWindow e) = x .busy
 
 abbrev pub seenNext : Event → Seen → Seen
 seenNext e x = record { latch = latchAfter (x .latch) e; busy = busyAfter x e }
@@ -146,14 +147,14 @@ overDefault (at o l v) i j = if enabled o l i then bit (byteFor o v i) j else bi
 
 -- what an event gives bit j of byte i, if it is an accepted host update that masks it
 unfoldable pub gives : ℕ → ℕ → Event → Given
-gives i j (read o l) = nothing
-gives i j (write o l v) = nothing
-gives i j (port-read p w) = nothing
-gives i j (port-write p w v) = nothing
-gives i j (host-update o m v) = updateGives (λ (i j : ℕ). isHost (classOf i j)) o m v i j
-gives i j end-signal = nothing
-gives i j platform-reset = nothing
-gives i j (window e) = nothing
+gives i j (Read o l) = nothing
+gives i j (Write o l v) = nothing
+gives i j (PortRead p w) = nothing
+gives i j (PortWrite p w v) = nothing
+gives i j (HostUpdate o m v) = updateGives (λ (i j : ℕ). isHost (classOf i j)) o m v i j
+gives i j EndSignal = nothing
+gives i j PlatformReset = nothing
+gives i j (InWindow e) = nothing
 
 -- the last of them that does
 abbrev pub lastUpdate : ℕ → ℕ → List Event → Given

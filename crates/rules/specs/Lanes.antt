@@ -5,7 +5,7 @@ use mathlib.Core.Bool.{true, false}
 use Prim.Native.Nat.{ℕ, _+_, _-_, _/_, _%_, _^_, _<_}
 use Rattle.bits.specs.Bits.{byteOf}
 use Rattle.bits.specs.Choice.{if_then_else_}
-use Rattle.answer.specs.Refusals.{ok}
+use Rattle.answer.specs.Refusals.{number, value, ok}
 use Rattle.rules.specs.declared.State.{State}
 use Rattle.rules.specs.Access.{enabled, byteFor}
 use Rattle.rules.specs.Read.{readBit, readValue}
@@ -22,7 +22,7 @@ No-lanes = (b : Bits) (o : ℕ) → shownValue b o 0 ≡ 0xFFFFFFFF
 
 -- 3. A refused read still returns 0.
 abbrev pub Refused-read : Type 0
-Refused-read = (o l v : ℕ) → (readReply o l v .number ≡ 0 → ⊥) → readReply o l v .value ≡ 0
+Refused-read = (o l v : ℕ) → (number (readReply o l v) ≡ 0 → ⊥) → value (readReply o l v) ≡ 0
 
 -- 4. A port caller sees no difference.
 

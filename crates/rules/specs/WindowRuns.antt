@@ -12,7 +12,11 @@ use Rattle.rules.specs.Past.{Given, nothing, given, orHeld, lastGiven}
 use Rattle.rules.specs.Plain.{laneValue}
 use Rattle.rules.specs.Claims.{claimed, translation, memoryClaimOf}
 use Rattle.rules.specs.Window.{FAULT-REG, MTOUUD, MTOUUD-HIGH, MBDSM, badWindow, windowBit, windowReadBit, windowReadOf, clears, windowWriteOf, beyond, mirrorMask}
-use Rattle.rules.specs.Events.{WindowEvent, window-read, window-write, complete, fault, add-cycles, mirror-update, windowHappens, Event, read, write, port-read, port-write, host-update, end-signal, platform-reset, window, happens, run}
+use Rattle.rules.specs.declared.WindowEvent.{WindowEvent}
+use Rattle.rules.specs.declared.WindowEvent.the-variants.{WindowRead, WindowWrite, Complete, Fault, AddCycles, MirrorUpdate}
+use Rattle.rules.specs.declared.Event.{Event}
+use Rattle.rules.specs.declared.Event.the-variants.{Read, Write, PortRead, PortWrite, HostUpdate, EndSignal, PlatformReset, InWindow}
+use Rattle.rules.specs.Events.{windowHappens, happens, run}
 use Rattle.rules.specs.History.{isReset, since, seen}
 
 -- ---- 1. demand 3's read-only clause, of the mirrors
@@ -21,28 +25,28 @@ abbrev pub isMirror : ℕ → Bool
 isMirror o = o is MTOUUD or o is MTOUUD-HIGH or o is MBDSM
 
 -- of events in the window and no others
-abbrev pub inWindow {ℓ} : {A : Type ℓ} → A → (WindowEvent → A) → Event → A
-inWindow x f (read o l) = x
-inWindow x f (write o l v) = x
-inWindow x f (port-read p w) = x
-inWindow x f (port-write p w v) = x
-inWindow x f (host-update o m v) = x
-inWindow x f end-signal = x
-inWindow x f platform-reset = x
-inWindow x f (window e) = f e
+abbrev pub ofWindow {ℓ} : {A : Type ℓ} → A → (WindowEvent → A) → Event → A
+ofWindow x f (Read o l) = x
+ofWindow x f (Write o l v) = x
+ofWindow x f (PortRead p w) = x
+ofWindow x f (PortWrite p w v) = x
+ofWindow x f (HostUpdate o m v) = x
+ofWindow x f EndSignal = x
+ofWindow x f PlatformReset = x
+ofWindow x f (InWindow e) = f e
 
 -- what an event gives bit n of the mirror at o, if it is an accepted update that masks it
 abbrev pub mirrorGives : ℕ → ℕ → WindowEvent → Given
-mirrorGives o n (window-read p l) = nothing
-mirrorGives o n (window-write p l v) = nothing
-mirrorGives o n (complete m) = nothing
-mirrorGives o n (fault v) = nothing
-mirrorGives o n (add-cycles c) = nothing
-mirrorGives o n (mirror-update p m v) = if not (badWindow p or beyond (mirrorMask p) m) and p is o and bit m n is 1 then given (bit v n) else nothing
+mirrorGives o n (WindowRead p l) = nothing
+mirrorGives o n (WindowWrite p l v) = nothing
+mirrorGives o n (Complete m) = nothing
+mirrorGives o n (Fault v) = nothing
+mirrorGives o n (AddCycles c) = nothing
+mirrorGives o n (MirrorUpdate p m v) = if not (badWindow p or beyond (mirrorMask p) m) and p is o and bit m n is 1 then given (bit v n) else nothing
 
 -- the last of them since the last platform reset, or the start; 0 where there is none
 abbrev pub mirrorBit : ℕ → ℕ → List Event → ℕ
-mirrorBit o n es = orHeld (lastGiven (inWindow nothing (mirrorGives o n)) (since es)) 0
+mirrorBit o n es = orHeld (lastGiven (ofWindow nothing (mirrorGives o n)) (since es)) 0
 
 abbrev pub Mirrors : Type 0
 Mirrors = (es : List Event) (o n : ℕ) → isMirror o ≡ true → n < 32 → windowBit (run es .window) o n ≡ mirrorBit o n es
@@ -54,16 +58,16 @@ Mirrors-read = (es : List Event) (o : ℕ) → isMirror o ≡ true → seen es .
 -- ---- 2. the cycle sum is that of the counts added since then, past 32 bits wrapped
 
 abbrev pub counted : WindowEvent → ℕ
-counted (window-read o l) = 0
-counted (window-write o l v) = 0
-counted (complete m) = 0
-counted (fault v) = 0
-counted (add-cycles n) = n
-counted (mirror-update o m v) = 0
+counted (WindowRead o l) = 0
+counted (WindowWrite o l v) = 0
+counted (Complete m) = 0
+counted (Fault v) = 0
+counted (AddCycles n) = n
+counted (MirrorUpdate o m v) = 0
 
 unfoldable pub total : List Event → ℕ
 total [] = 0
-total (e ∷ es) = inWindow 0 counted e + total es
+total (e ∷ es) = ofWindow 0 counted e + total es
 
 abbrev pub Sum : Type 0
 Sum = (es : List Event) → run es .window .cycles ≡ total (since es) % 2 ^ 32
@@ -71,15 +75,15 @@ Sum = (es : List Event) → run es .window .cycles ≡ total (since es) % 2 ^ 32
 -- ---- 3. a fault that is held stays, but for a platform reset and a guest write that clears it
 
 abbrev pub clearing : WindowEvent → Bool
-clearing (window-read o l) = false
-clearing (window-write o l v) = o is FAULT-REG and clears l v
-clearing (complete m) = false
-clearing (fault v) = false
-clearing (add-cycles n) = false
-clearing (mirror-update o m v) = false
+clearing (WindowRead o l) = false
+clearing (WindowWrite o l v) = o is FAULT-REG and clears l v
+clearing (Complete m) = false
+clearing (Fault v) = false
+clearing (AddCycles n) = false
+clearing (MirrorUpdate o m v) = false
 
 abbrev pub Locked : Type 0
-Locked = (e : Event) (s : State) → bit (s .window .fault) 0 ≡ 1 → isReset e ≡ false → inWindow false clearing e ≡ false → happens e s .state .window .fault ≡ s .window .fault
+Locked = (e : Event) (s : State) → bit (s .window .fault) 0 ≡ 1 → isReset e ≡ false → ofWindow false clearing e ≡ false → happens e s .state .window .fault ≡ s .window .fault
 
 -- ---- 4. of ASSRREQ only bits 3:0 are ever held
 
@@ -89,7 +93,7 @@ Requests = (es : List Event) (n : ℕ) → 4 ≤ n → n < 32 → bit (run es .w
 -- ---- 5. a function reset leaves the window as it is, at its start and at its end: so does every event but a platform reset and those of the window
 
 abbrev pub Left : Type 0
-Left = (e : Event) (s : State) → isReset e ≡ false → inWindow true (λ (w : WindowEvent). false) e ≡ true → happens e s .state .window ≡ s .window
+Left = (e : Event) (s : State) → isReset e ≡ false → ofWindow true (λ (w : WindowEvent). false) e ≡ true → happens e s .state .window ≡ s .window
 
 -- and those of the window leave all else
 abbrev pub Apart : Type 0

@@ -1,4 +1,6 @@
-// The twin's state, and an enum for each kind of answer. What each access does is in specs/; this crate has no code.
+// The twin's state, what can happen to it, and what an entry gives. What each event does is in specs/; this crate has no code.
+use answer::Answer;
+use answer::Refusal;
 
 // The write-once fields: 0 open, any other number closed. Busy: 0 where no function reset is under way, any other number where one is.
 #[repr(C)]
@@ -29,71 +31,16 @@ pub struct State {
     pub window: Mapped,
 }
 
-pub enum ReadAnswer {
-    Value(u32),
-    Offset,
-    Lanes,
-}
-
-pub enum WriteAnswer {
-    Done,
-    Offset,
-    Lanes,
-}
-
-pub struct Written {
-    pub answer: WriteAnswer,
+// What is answered, and the state afterwards.
+pub struct Stepped {
+    pub answer: Answer,
     pub state: State,
 }
 
-pub enum HostAnswer {
-    Done,
-    Offset,
-    NotHost,
-}
-
-pub struct Updated {
-    pub answer: HostAnswer,
-    pub state: State,
-}
-
-pub enum PortReadAnswer {
-    Value(u32),
-    Width,
-    NotOurs,
-    OtherFunction,
-}
-
-pub enum PortWriteAnswer {
-    Done,
-    Width,
-    NotOurs,
-    OtherFunction,
-}
-
-pub struct PortWritten {
-    pub answer: PortWriteAnswer,
-    pub state: State,
-}
-
-// Of a read in the window.
-pub enum WindowReadAnswer {
-    Value(u32),
-    Offset,
-    Lanes,
-}
-
-// Of a guest write in the window, and of the host's changes there.
-pub enum WindowAnswer {
-    Done,
-    Offset,
-    Lanes,
-    NotHost,
-}
-
-pub struct Reached {
-    pub answer: WindowAnswer,
-    pub state: State,
+// What is asked of an access before it is made.
+pub enum Admitted {
+    Yes,
+    No(Refusal),
 }
 
 // The window that claims an address, with the offset inside, or none.
@@ -102,4 +49,26 @@ pub enum Claim {
     Aperture(u32),
     Io(u32),
     None,
+}
+
+// What can happen in the window: a guest's read (offset, lanes) and write (offset, lanes, value); the host completes requests (mask), gives a fault word, adds a count to the cycles, and updates a mirror (offset, mask, value).
+pub enum WindowEvent {
+    WindowRead(u32, u32),
+    WindowWrite(u32, u32, u32),
+    Complete(u32),
+    Fault(u32),
+    AddCycles(u32),
+    MirrorUpdate(u32, u32, u32),
+}
+
+// What can happen: a guest's read (offset, lanes) and write (offset, lanes, value), through the ports too (port, width, value); the host's update (offset, mask, value) and end signal; a platform reset; and what happens in the window.
+pub enum Event {
+    Read(u32, u32),
+    Write(u32, u32, u32),
+    PortRead(u16, u32),
+    PortWrite(u16, u32, u32),
+    HostUpdate(u32, u8, u8),
+    EndSignal,
+    PlatformReset,
+    InWindow(WindowEvent),
 }

@@ -21,7 +21,7 @@ fn say_entry(s: &[u8], k: usize) {
     say_number((number as u64) + 1);
     say(b" at ");
     let offset = sheet::byte_at(s, 4 * number + 1) as u32;
-    say(&[words::digit(offset / 16), words::digit(offset)]);
+    say(&[text_pieces::digit(offset / 16), text_pieces::digit(offset)]);
     say(b": ");
 }
 

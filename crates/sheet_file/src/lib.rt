@@ -86,8 +86,8 @@ fn tell(s: &[u8], a: SheetAnswer, number: u32) {
 fn judge(s: &[u8]) -> bool
     ensures { λ r. ⌜ r ≡ accepts (checkOf (now (s .entry))) ⌝ }
 {
-    let a = sheets::check(s);
-    let number = sheets::number(a);
+    let a = sheet_check::check(s);
+    let number = sheet_check::number(a);
     tell(s, a, number);
     number == 0
 }

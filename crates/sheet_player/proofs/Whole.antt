@@ -8,18 +8,20 @@ use lib.ListN.{length, getD}
 use Rattle.bits.specs.Choice.{pick}
 use Rattle.bits.specs.Places.{bytes}
 use Rattle.bits.proofs.Places.{length-bytes, at-each}
-use Rattle.device.specs.ReadOnly.{Read-only-after}
-use Rattle.device.proofs.ReadOnly as D
+use Rattle.plain_device.specs.ReadOnly.{Read-only-after}
+use Rattle.plain_device.proofs.ReadOnly as D
 use Rattle.session.specs.Session.{allLines, joins, blocksText, blocksState}
 use Rattle.sheet.specs.Sheet.{entries, DEFAULT}
 use Rattle.sheet_rules.specs.Check.{accepts, checkOf}
 use Rattle.sheet_rules.specs.Tables.{cellIn, tableOf, tables, tablesOf}
 use Rattle.sheet_rules.proofs.Cells.{cell-fits}
 use Rattle.sheet_rules.proofs.Demand3.{inside}
-use Rattle.sheet_play.specs.Box.{lineBox, lineText}
-use Rattle.sheet_play.specs.Player.{eventsOf, sheetPlayerOf}
-use Rattle.sheet_play.proofs.Bridge.{Good, boxed, sheet-player-is, sheet-player-leaves}
-use Rattle.sheet_play.proofs.Events as E
+use Rattle.sheet_step.specs.Player.{eventsOf, sheetPlayerOf}
+use Rattle.sheet_step.proofs.Bridge.{Good}
+use Rattle.sheet_step.proofs.Events as E
+use Rattle.rules.specs.declared.Flags.{Flags}
+use Rattle.player_line.specs.Box.{lineBox, lineText}
+use Rattle.player_line.proofs.Sheet.{boxed-with, sheet-player-is, sheet-player-leaves}
 use Rattle.sheet_player.specs.Demand3.{Read-only}
 
 -- bytes by place
@@ -35,13 +37,13 @@ defaults-good s b = go (accepts (checkOf s))
     go true = of-places (λ (i : ℕ). cellIn s DEFAULT i (entries s)) (λ i. cell-fits s DEFAULT i (entries s) b)
     go false = of-places (λ (i : ℕ). 0) (λ i. omega arith)
 
-pub session-is : (s : List ℕ) → ((i : ℕ) → getD s i 0 < 2 ^ 8) → (xs : List (List ℕ)) → blocksText lineBox lineText 16 (boxed (tablesOf s)) [] xs ≡ sheetPlayerOf (tablesOf s) (joins xs)
-session-is s b xs = sheet-player-is (tablesOf s) (defaults-good s b) xs
+pub session-is : (s : List ℕ) → ((i : ℕ) → getD s i 0 < 2 ^ 8) → (c : Flags) (xs : List (List ℕ)) → blocksText lineBox lineText 16 (boxed-with (tablesOf s) c (tablesOf s .defaults)) [] xs ≡ sheetPlayerOf (tablesOf s) (joins xs)
+session-is s b c xs = sheet-player-is (tablesOf s) c (defaults-good s b) xs
 
 -- after any session on a sheet's device, by the rules
 pub session-read-only : Read-only
 session-read-only s = E.session-read-only (tablesOf s) (inside s)
 
 -- and of the bytes that the machine holds
-pub session-holds : (s : List ℕ) → ((i : ℕ) → getD s i 0 < 2 ^ 8) → (xs : List (List ℕ)) → Read-only-after (tablesOf s) (eventsOf (allLines (joins xs))) (blocksState lineBox lineText 16 (boxed (tablesOf s)) [] xs .bytes)
-session-holds s b xs i j h k fixed = rw (sheet-player-leaves (tablesOf s) (defaults-good s b) xs) (D.read-only (tablesOf s) (inside s) (eventsOf (allLines (joins xs))) i j h k fixed)
+pub session-holds : (s : List ℕ) → ((i : ℕ) → getD s i 0 < 2 ^ 8) → (c : Flags) (xs : List (List ℕ)) → Read-only-after (tablesOf s) (eventsOf (allLines (joins xs))) (blocksState lineBox lineText 16 (boxed-with (tablesOf s) c (tablesOf s .defaults)) [] xs .bytes)
+session-holds s b c xs i j h k fixed = rw (sheet-player-leaves (tablesOf s) c (defaults-good s b) xs) (D.read-only (tablesOf s) (inside s) (eventsOf (allLines (joins xs))) i j h k fixed)

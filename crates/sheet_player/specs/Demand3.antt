@@ -2,7 +2,7 @@
 use mathlib.Core.List.{List}
 use Prim.Native.Nat.{ℕ}
 use Rattle.sheet_rules.specs.Tables.{tablesOf}
-use Rattle.sheet_play.specs.Events as E
+use Rattle.sheet_step.specs.Events as E
 
 abbrev pub Read-only : Type 0
 Read-only = (s : List ℕ) → E.Read-only (tablesOf s)

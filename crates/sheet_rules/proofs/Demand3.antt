@@ -12,15 +12,15 @@ use Rattle.bits.specs.Places.{bytes}
 use Rattle.bits.proofs.Laws.{bit<2, bit-zero, number-ext, number-none}
 use Rattle.bits.proofs.Below.{any-none, unmasked}
 use Rattle.bits.proofs.Places.{getD-bytes}
-use Rattle.answer.specs.Refusals.{Reply, ok, no, OFFSET, LANES}
+use Rattle.answer.specs.Refusals.{Reply, ok, no, OFFSET, LANES, number, value}
 use Rattle.rules.specs.Access.{badOffset, badLanes, byteFor}
 use Rattle.rules.specs.Plain.{held, under, shownValue}
 use Rattle.rules.proofs.Access.{good-offset}
 use Rattle.rules.proofs.Lanes.{in-lanes}
-use Rattle.device.specs.declared.Tables.{Tables}
-use Rattle.device.specs.Device.{readOf}
-use Rattle.device.specs.ReadOnly.{Inside, run}
-use Rattle.device.proofs.ReadOnly as D
+use Rattle.plain_device.specs.declared.Tables.{Tables}
+use Rattle.plain_device.specs.Device.{readOf}
+use Rattle.plain_device.specs.ReadOnly.{Inside, run}
+use Rattle.plain_device.proofs.ReadOnly as D
 use Rattle.sheet.specs.Sheet.{entries, DEFAULT, GUEST, HOST, RESET, goodSheet}
 use Rattle.sheet_rules.specs.Check.{accepts, checkOf}
 use Rattle.sheet_rules.specs.Tables.{cellIn, tableOf, tables, tablesOf}
@@ -72,6 +72,6 @@ unlisted-read s g es o l v k e h on none = go (badOffset o) (badLanes l) refl e
     zero p = number-ext 8 (held (run (tablesOf s) es) (o + k)) (λ (j : ℕ). 0) (λ j q. unlisted s g es (o + k) j (omega (arith, good-offset o p .0)) q none) ∙ number-none 8
 
     go : (a b : Bool) → badOffset o ≡ a → pick a (no OFFSET) (pick b (no LANES) (ok (shownValue (held (run (tablesOf s) es)) o l))) ≡ ok v → byteFor o v (o + k) ≡ 0
-    go true b p r = absurd (omega (arith, ap (λ (x : Reply). x .number) r))
-    go false true p r = absurd (omega (arith, ap (λ (x : Reply). x .number) r))
-    go false false p r = ap (λ (x : Reply). byteFor o (x .value) (o + k)) (sym r) ∙ in-lanes (held (run (tablesOf s) es)) o l k (λ i j. bit<2 _ j) h ∙ rw on (zero p)
+    go true b p r = absurd (omega (arith, ap number r))
+    go false true p r = absurd (omega (arith, ap number r))
+    go false false p r = ap (λ (x : Reply). byteFor o (value x) (o + k)) (sym r) ∙ in-lanes (held (run (tablesOf s) es)) o l k (λ i j. bit<2 _ j) h ∙ rw on (zero p)

@@ -6,8 +6,9 @@ use Prim.Native.Nat.{ℕ, _+_, _<_}
 use Rattle.answer.specs.Refusals.{ok}
 use Rattle.rules.specs.Access.{enabled, byteFor}
 use Rattle.rules.specs.Plain.{held}
-use Rattle.device.specs.Device.{readOf}
-use Rattle.device.specs.ReadOnly as D
+use Rattle.plain_device.specs.Device.{readOf}
+use Rattle.plain_device.specs.declared.Event.{Event}
+use Rattle.plain_device.specs.ReadOnly as D
 use Rattle.sheet.specs.Sheet.{entries, goodSheet}
 use Rattle.sheet_rules.specs.Tables.{has, tablesOf}
 
@@ -17,8 +18,8 @@ Read-only = (s : List ℕ) → D.Read-only (tablesOf s)
 
 -- 2. Unlisted bytes hold 0.
 abbrev pub Unlisted : Type 0
-Unlisted = (s : List ℕ) → goodSheet s ≡ true → (es : List D.Event) (i j : ℕ) → i < 256 → j < 8 → ((k : ℕ) → k < entries s → has s k i ≡ false) → held (D.run (tablesOf s) es) i j ≡ 0
+Unlisted = (s : List ℕ) → goodSheet s ≡ true → (es : List Event) (i j : ℕ) → i < 256 → j < 8 → ((k : ℕ) → k < entries s → has s k i ≡ false) → held (D.run (tablesOf s) es) i j ≡ 0
 
 -- 3. Unlisted bytes read 0: an accepted guest read has 00 in the lane of such a byte, where that lane is enabled.
 abbrev pub Unlisted-read : Type 0
-Unlisted-read = (s : List ℕ) → goodSheet s ≡ true → (es : List D.Event) (o l v k : ℕ) → readOf (D.run (tablesOf s) es) o l ≡ ok v → k < 4 → enabled o l (o + k) ≡ true → ((n : ℕ) → n < entries s → has s n (o + k) ≡ false) → byteFor o v (o + k) ≡ 0
+Unlisted-read = (s : List ℕ) → goodSheet s ≡ true → (es : List Event) (o l v k : ℕ) → readOf (D.run (tablesOf s) es) o l ≡ ok v → k < 4 → enabled o l (o + k) ≡ true → ((n : ℕ) → n < entries s → has s n (o + k) ≡ false) → byteFor o v (o + k) ≡ 0

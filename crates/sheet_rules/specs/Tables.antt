@@ -4,7 +4,7 @@ use mathlib.Core.Bool.{Bool}
 use Prim.Native.Nat.{ℕ, zero, suc, _+_, _-_, _*_}
 use Rattle.bits.specs.Choice.{if_then_else_, _and_, _≤?_, _<?_}
 use Rattle.bits.specs.Places.{bytes}
-use Rattle.device.specs.declared.Tables.{Tables}
+use Rattle.plain_device.specs.declared.Tables.{Tables}
 use Rattle.sheet.specs.Sheet.{at, entries, offsetOf, lengthOf, startOf, bodyOf, partOf, DEFAULT, GUEST, HOST, RESET}
 use Rattle.sheet_rules.specs.Check.{accepts, checkOf}
 

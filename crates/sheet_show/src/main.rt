@@ -17,6 +17,6 @@ fn main() {
     let n = held.n;
     let bytes = held.bytes;
     let mut out = out_buffer();
-    let filled = sheet_rows::table(&bytes[..n], &mut out);
+    let filled = sheet_table::table(&bytes[..n], &mut out);
     streams::put(&out[..filled]);
 }

@@ -8,10 +8,10 @@ use Rattle.rules.specs.declared.State.{State}
 use Rattle.rules.specs.Fresh.{freshOf}
 use Rattle.rules.specs.Read.{imageOf}
 use Rattle.session.specs.Session.{joins, blocksState}
-use Rattle.replies.specs.Console.{lineNext, lineSay}
-use Rattle.talk.proofs.Console.{console-after}
-use Rattle.hear.specs.Turn.{Led}
-use Rattle.dumps.specs.Dump.{dumpText}
+use Rattle.console_lines.specs.Console.{lineNext, lineSay}
+use Rattle.console_lines.proofs.Console.{console-after}
+use Rattle.console_session.specs.Turns.{Led}
+use Rattle.lspci_text.specs.Dump.{dumpText}
 use Rattle.snapshot.specs.Shown.{snapshotOf, Shown}
 
 pub snapshot-is : (xs : List (List ℕ)) → dumpText (imageOf (blocksState lineNext lineSay 27 freshOf [] xs)) ≡ snapshotOf (joins xs)

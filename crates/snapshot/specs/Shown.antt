@@ -6,8 +6,8 @@ use Prim.Native.Nat.{ℕ}
 use Rattle.rules.specs.Fresh.{freshOf}
 use Rattle.rules.specs.Read.{imageOf}
 use Rattle.session.specs.Session.{allLines, after}
-use Rattle.replies.specs.Console.{lineNext, lineSay}
-use Rattle.dumps.specs.Dump.{dumpText}
+use Rattle.console_lines.specs.Console.{lineNext, lineSay}
+use Rattle.lspci_text.specs.Dump.{dumpText}
 
 abbrev pub snapshotOf : List ℕ → List ℕ
 snapshotOf xs = dumpText (imageOf (after lineNext lineSay freshOf (allLines xs)))

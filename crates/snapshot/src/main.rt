@@ -4,7 +4,7 @@ ghost use mathlib.Core.Path.{_≡_};
 ghost use Prim.Native.Nat.{_≤_};
 ghost use lib.ListN.{length, take};
 ghost use Rattle.rules.specs.Read.{imageOf};
-ghost use Rattle.dumps.specs.Dump.{dumpText};
+ghost use Rattle.lspci_text.specs.Dump.{dumpText};
 ghost use Rattle.snapshot.specs.Shown.{Shown};
 
 // The dump of what a guest reads.
@@ -14,7 +14,7 @@ fn show(s: State, out: &mut [u8]) -> usize
     ensures { λ r. ⌜ (r ≤ length (now (out .exit))) × (length (now (out .exit)) ≡ length (now (out .entry))) ⌝ }
 {
     let b = twin::image(s);
-    dumps::put_dump(out, &b)
+    lspci_text::put_dump(out, &b)
 }
 
 // The first `n` bytes of the buffer; none where the input did not end, but a read failed.
@@ -30,7 +30,7 @@ fn snap(buf: &mut [u8], out: &mut [u8]) -> Taken
     ensures { λ r. ⌜ (r .n ≤ length (now (out .exit))) × (length (now (out .exit)) ≡ 98952) ⌝ }
 {
     let s = twin::fresh();
-    let h = hear::listen(s, false, buf, out);
+    let h = console_session::listen(s, false, buf, out);
     if !h.over {
         return Taken { n: 0, over: false };
     }
@@ -40,8 +40,8 @@ fn snap(buf: &mut [u8], out: &mut [u8]) -> Taken
 }
 
 fn main() {
-    let mut buf = hear::in_buffer();
-    let mut out = hear::out_buffer();
+    let mut buf = console_session::in_buffer();
+    let mut out = console_session::out_buffer();
     let s = snap(&mut buf, &mut out);
     let n = s.n;
     streams::put(&out[..n]);

@@ -5,18 +5,18 @@ ghost use Rattle.rules.specs.Read.{readOf, imageOf};
 ghost use Rattle.rules.specs.Host.{hostOf};
 ghost use Rattle.rules.specs.Reset.{endOf};
 ghost use Rattle.rules.specs.Fresh.{freshOf};
-ghost use Rattle.rules.specs.Answers.{readSays, wrote, updated};
-use rules::ReadAnswer;
+ghost use Rattle.answer.specs.Said.{says};
+ghost use Rattle.rules.specs.Answers.{stepped};
+use answer::Answer;
 use rules::State;
-use rules::Updated;
-use rules::Written;
+use rules::Stepped;
 
 // The enabled bytes of the dword at `offset`.
-pub fn read(s: State, offset: u32, lanes: u32) -> ReadAnswer
-    ensures { λ r. ⌜ readSays r ≡ readOf s offset lanes ⌝ }
+pub fn read(s: State, offset: u32, lanes: u32) -> Answer
+    ensures { λ r. ⌜ says r ≡ readOf s offset lanes ⌝ }
 {
     let t = s;
-    reads::read(&t.bytes, t.flags.busy, offset, lanes)
+    guest_read::read(&t.bytes, t.flags.busy, offset, lanes)
 }
 
 // The 256 bytes as a guest reads them: what a capability walk goes over.
@@ -24,31 +24,31 @@ pub fn image(s: State) -> [u8; 256]
     ensures { λ r. ⌜ r ≡ imageOf s ⌝ }
 {
     let t = s;
-    reads::image(&t.bytes, t.flags.busy)
+    guest_read::image(&t.bytes, t.flags.busy)
 }
 
 // A guest write of the enabled bytes of `value` to the dword at `offset`; it may start a function reset, and while one is under way it is dropped.
-pub fn write(s: State, offset: u32, lanes: u32, value: u32) -> Written
-    ensures { λ r. ⌜ wrote r ≡ writeOf s offset lanes value ⌝ }
+pub fn write(s: State, offset: u32, lanes: u32, value: u32) -> Stepped
+    ensures { λ r. ⌜ stepped r ≡ writeOf s offset lanes value ⌝ }
 {
     let guest = map::all_guests();
     let mut t = s;
     let c = t.flags;
-    let w = writes::write(&mut t.bytes, &guest, c, offset, lanes, value);
+    let w = guest_write::write(&mut t.bytes, &guest, c, offset, lanes, value);
     let answer = w.answer;
     let after = w.flags;
     t.flags = after;
-    Written { answer, state: t }
+    Stepped { answer, state: t }
 }
 
 // The device's own change of the bits under `mask`, in the byte at `offset`.
-pub fn host_update(s: State, offset: u32, mask: u8, value: u8) -> Updated
-    ensures { λ r. ⌜ updated r ≡ hostOf s offset mask value ⌝ }
+pub fn host_update(s: State, offset: u32, mask: u8, value: u8) -> Stepped
+    ensures { λ r. ⌜ stepped r ≡ hostOf s offset mask value ⌝ }
 {
     let host = map::all_hosts();
     let mut t = s;
-    let answer = updates::host_update(&mut t.bytes, &host, offset, mask, value);
-    Updated { answer, state: t }
+    let answer = host_updates::host_update(&mut t.bytes, &host, offset, mask, value);
+    Stepped { answer, state: t }
 }
 
 // The host's end signal: the function reset that is under way ends.
@@ -57,7 +57,7 @@ pub fn end_signal(s: State) -> State
 {
     let mut t = s;
     let c = t.flags;
-    let after = resets::end(&mut t.bytes, c);
+    let after = function_reset::end(&mut t.bytes, c);
     t.flags = after;
     t
 }
@@ -67,8 +67,8 @@ pub fn fresh() -> State
     ensures { λ r. ⌜ r ≡ freshOf ⌝ }
 {
     let bytes = map::all_defaults();
-    let flags = resets::fresh_flags();
-    let window = resets::fresh_window();
+    let flags = function_reset::fresh_flags();
+    let window = function_reset::fresh_window();
     State {
         bytes,
         latch: 0,

@@ -7,11 +7,8 @@ use Rattle.claims.proofs.off.Tie as tie
 returns : tie.Need-returns
 returns c = search tests
 
-element-copy-out-result : tie.Need-element-copy-out-result
-element-copy-out-result c = search needs
-
 returns-2 : tie.Need-returns-2
 returns-2 c = search tests
 
 pub off-spec : {M : Type 1} → statement M
-off-spec = tie.close (tie.spec returns element-copy-out-result returns-2)
+off-spec = tie.close (tie.spec returns (λ c. search needs) returns-2)

@@ -7,16 +7,10 @@ use borrow.Author.Needs.{needs}
 use Rattle.plain.proofs.driven.Statement.{statement}
 use Rattle.plain.proofs.driven.Tie as tie
 
-spread-requires : tie.Need-spread-requires
-spread-requires c κs = search needs
-
-blend32-requires : tie.Need-blend32-requires
-blend32-requires c κs = search needs
-
 returns : tie.Need-returns
 returns c =
     let a = c .before .before .args in
     c .blend32 .ensures ∙ ap (λ (x : ℕ). blendK 32 x 0xFFFFFFFF (a .dword)) (c .before .spread .ensures) ∙ blended-is (a .lanes) (a .dword)
 
 pub driven-spec : {M : Type 1} → statement M
-driven-spec = tie.close (tie.spec spread-requires blend32-requires returns)
+driven-spec = tie.close (tie.spec (λ c κs. search needs) (λ c κs. search needs) returns)

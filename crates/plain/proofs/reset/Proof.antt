@@ -17,30 +17,6 @@ Inv-loop m₀ masks defaults i₀ m i = (i ≤ 256) × (m ≡ mapN i (returnedBy
 abbrev μ-loop : tie.MeasureT-loop
 μ-loop m₀ masks defaults i₀ m i = 256 - i
 
-loop-holds : tie.Need-loop-holds Inv-loop μ-loop
-loop-holds c = search needs
-
-element-copy-out-blend : tie.Need-element-copy-out-blend Inv-loop μ-loop
-element-copy-out-blend c = search needs
-
-element-copy-out-blend-2 : tie.Need-element-copy-out-blend-2 Inv-loop μ-loop
-element-copy-out-blend-2 c = search needs
-
-element-copy-out-blend-3 : tie.Need-element-copy-out-blend-3 Inv-loop μ-loop
-element-copy-out-blend-3 c = search needs
-
-blend-requires : tie.Need-blend-requires Inv-loop μ-loop
-blend-requires c κs = search needs
-
-element-write-m : tie.Need-element-write-m Inv-loop μ-loop
-element-write-m c = search needs
-
-add-i : tie.Need-add-i Inv-loop μ-loop
-add-i c = search needs
-
-loop-less : tie.Need-loop-less Inv-loop μ-loop
-loop-less c = search needs
-
 loop-again : tie.Need-loop-again Inv-loop μ-loop
 loop-again c =
     let d = c .before .before .before .before .before in
@@ -60,13 +36,13 @@ reset-spec =
     (tie.spec
     Inv-loop
     μ-loop
-    loop-holds
-    element-copy-out-blend
-    element-copy-out-blend-2
-    element-copy-out-blend-3
-    blend-requires
-    element-write-m
-    add-i
-    loop-less
+    (λ c. search needs)
+    (λ c. search needs)
+    (λ c. search needs)
+    (λ c. search needs)
+    (λ c κs. search needs)
+    (λ c. search needs)
+    (λ c. search needs)
+    (λ c. search needs)
     loop-again
     returns)

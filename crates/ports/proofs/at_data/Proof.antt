@@ -4,9 +4,6 @@ use borrow.Author.Needs.{needs}
 use Rattle.ports.proofs.at_data.Statement.{statement}
 use Rattle.ports.proofs.at_data.Tie as tie
 
-add-if2 : tie.Need-add-if2
-add-if2 c = search needs
-
 returns : tie.Need-returns
 returns c = search tests
 
@@ -17,4 +14,4 @@ returns-3 : tie.Need-returns-3
 returns-3 c = search tests
 
 pub at-data-spec : {M : Type 1} → statement M
-at-data-spec = tie.close (tie.spec add-if2 returns returns-2 returns-3)
+at-data-spec = tie.close (tie.spec (λ c. search needs) returns returns-2 returns-3)

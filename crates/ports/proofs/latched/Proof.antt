@@ -5,11 +5,8 @@ use borrow.Author.Needs.{needs}
 use Rattle.ports.proofs.latched.Statement.{statement}
 use Rattle.ports.proofs.latched.Tie as tie
 
-blend32-requires : tie.Need-blend32-requires
-blend32-requires c κs = search needs
-
 returns : tie.Need-returns
 returns c = c .blend32 .ensures ∙ latch-is (c .before .args .value)
 
 pub latched-spec : {M : Type 1} → statement M
-latched-spec = tie.close (tie.spec blend32-requires returns)
+latched-spec = tie.close (tie.spec (λ c κs. search needs) returns)

@@ -13,9 +13,6 @@ use Rattle.probe.proofs.probe.Tie as tie
 counted-of-both : (low high : ℕ) → countedFrom 4 (high * 2 ^ 32 + low) ≡ high * 2 ^ 32 + countedFrom 4 low
 counted-of-both low high = omega arith
 
-mul-m : tie.Need-mul-m
-mul-m c = search needs
-
 returns : tie.Need-returns
 unfolding probeOf
 returns c = let none : countedFrom 2 (c .before .before .args .low) ≡ 0 = omega arith in search (tests, div-one)
@@ -24,9 +21,6 @@ returns-2 : tie.Need-returns-2
 unfolding probeOf
 returns-2 c = search (tests, div-one)
 
-mul-m-2 : tie.Need-mul-m-2
-mul-m-2 c = search needs
-
 returns-3 : tie.Need-returns-3
 unfolding probeOf
 returns-3 c = let none : countedFrom 4 (c .before .before .before .args .low) ≡ 0 = omega arith in search (tests, div-one)
@@ -34,18 +28,6 @@ returns-3 c = let none : countedFrom 4 (c .before .before .before .args .low) �
 returns-4 : tie.Need-returns-4
 unfolding probeOf
 returns-4 c = search (tests, div-one)
-
-mul-m-3 : tie.Need-mul-m-3
-mul-m-3 c = search needs
-
-mul-m-4 : tie.Need-mul-m-4
-mul-m-4 c = search needs
-
-cast-m : tie.Need-cast-m
-cast-m c = search needs
-
-add-m : tie.Need-add-m
-add-m c = search needs
 
 returns-5 : tie.Need-returns-5
 unfolding probeOf
@@ -66,16 +48,16 @@ pub probe-spec : {M : Type 1} → statement M
 probe-spec =
     tie.close
     (tie.spec
-    mul-m
+    (λ c. search needs)
     returns
     returns-2
-    mul-m-2
+    (λ c. search needs)
     returns-3
     returns-4
-    mul-m-3
-    mul-m-4
-    cast-m
-    add-m
+    (λ c. search needs)
+    (λ c. search needs)
+    (λ c. search needs)
+    (λ c. search needs)
     returns-5
     returns-6
     returns-7)

@@ -9,17 +9,11 @@ use borrow.Author.Needs.{needs}
 use Rattle.sheet.proofs.byte_masks.Statement.{statement}
 use Rattle.sheet.proofs.byte_masks.Tie as tie
 
-blend-requires : tie.Need-blend-requires
-blend-requires c κs = search needs
-
 returns : tie.Need-returns
 unfolding byteIs
 returns c =
     let a = c .before .before .args in
     rw (sym (shared-is (a .guest) (a .host)), ne-eqb (blendK 8 (a .guest) 0 (a .host)) 0 (λ e. omega arith))
-
-blend-requires-2 : tie.Need-blend-requires-2
-blend-requires-2 c κs = search needs
 
 returns-2 : tie.Need-returns-2
 unfolding byteIs
@@ -34,4 +28,4 @@ returns-3 c =
     rw (sym (shared-is (a .guest) (a .host)), eq-eqb (blendK 8 (a .guest) 0 (a .host)) 0 (omega arith), sym (stray-is (a .reset) (a .guest)), eq-eqb (blendK 8 (a .guest) (a .reset) 0) 0 (omega arith))
 
 pub byte-masks-spec : {M : Type 1} → statement M
-byte-masks-spec = tie.close (tie.spec blend-requires returns blend-requires-2 returns-2 returns-3)
+byte-masks-spec = tie.close (tie.spec (λ c κs. search needs) returns (λ c κs. search needs) returns-2 returns-3)

@@ -1,13 +1,10 @@
 -- The end signal by value: the end over its bytes comes to the rule.
 use mathlib.Core.Path.{_≡_}
 use lib.ListN.{length}
-use Rattle.resets.proofs.Bridge.{end-is}
+use Rattle.function_reset.proofs.Bridge.{end-is}
 use borrow.Author.Needs.{needs}
 use Rattle.twin.proofs.end_signal.Statement.{statement}
 use Rattle.twin.proofs.end_signal.Tie as tie
-
-end-requires : tie.Need-end-requires
-end-requires c κs = search needs
 
 returns : tie.Need-returns
 returns c =
@@ -16,4 +13,4 @@ returns c =
     rw (c .end .ensures .0, c .end .ensures .1) (end-is s n)
 
 pub end-signal-spec : {M : Type 1} → statement M
-end-signal-spec = tie.close (tie.spec end-requires returns)
+end-signal-spec = tie.close (tie.spec (λ c κs. search needs) returns)

@@ -4,16 +4,10 @@ use Prim.Native.Nat.{ℕ}
 use lib.ListN.{length, getD}
 use mir.Syntax.{w8}
 use mir.Val.{Fits}
-use Rattle.updates.proofs.Bridge.{whole, update-is}
+use Rattle.host_updates.proofs.Bridge.{whole, update-is}
 use borrow.Author.Needs.{needs}
 use Rattle.twin.proofs.host_update.Statement.{statement}
 use Rattle.twin.proofs.host_update.Tie as tie
-
-all-hosts-requires : tie.Need-all-hosts-requires
-all-hosts-requires c κs = search needs
-
-host-update-requires : tie.Need-host-update-requires
-host-update-requires c κs = search needs
 
 returns : tie.Need-returns
 returns c =
@@ -24,4 +18,4 @@ returns c =
     ap (whole s n (λ i. fits i .fits)) (c .host-update .ensures) ∙ rw (c .before .before .before .all-hosts .ensures) (update-is s n (λ i. fits i .fits) (a .offset) (a .mask) (a .value))
 
 pub host-update-spec : {M : Type 1} → statement M
-host-update-spec = tie.close (tie.spec all-hosts-requires host-update-requires returns)
+host-update-spec = tie.close (tie.spec (λ c κs. search needs) (λ c κs. search needs) returns)

@@ -4,7 +4,7 @@ use Prim.Native.Nat.{ℕ}
 use lib.ListN.{length, getD}
 use mir.Syntax.{w8}
 use mir.Val.{Fits}
-use Rattle.reads.proofs.Bridge.{image-is}
+use Rattle.guest_read.proofs.Bridge.{image-is}
 use borrow.Author.Needs.{needs}
 use Rattle.twin.proofs.image.Statement.{statement}
 use Rattle.twin.proofs.image.Tie as tie

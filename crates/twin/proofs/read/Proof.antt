@@ -4,13 +4,10 @@ use Prim.Native.Nat.{ℕ}
 use lib.ListN.{getD}
 use mir.Syntax.{w8}
 use mir.Val.{Fits}
-use Rattle.reads.proofs.Bridge.{read-is}
+use Rattle.guest_read.proofs.Bridge.{read-is}
 use borrow.Author.Needs.{needs}
 use Rattle.twin.proofs.read.Statement.{statement}
 use Rattle.twin.proofs.read.Tie as tie
-
-read-requires : tie.Need-read-requires
-read-requires c κs = search needs
 
 returns : tie.Need-returns
 returns c =
@@ -20,4 +17,4 @@ returns c =
     c .read .ensures ∙ read-is s (λ i. fits i .fits) (a .offset) (a .lanes)
 
 pub read-spec : {M : Type 1} → statement M
-read-spec = tie.close (tie.spec read-requires returns)
+read-spec = tie.close (tie.spec (λ c κs. search needs) returns)

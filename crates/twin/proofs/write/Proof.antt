@@ -4,16 +4,10 @@ use Prim.Native.Nat.{ℕ}
 use lib.ListN.{length, getD}
 use mir.Syntax.{w8}
 use mir.Val.{Fits}
-use Rattle.writes.proofs.Bridge.{whole, write-is}
+use Rattle.guest_write.proofs.Bridge.{whole, write-is}
 use borrow.Author.Needs.{needs}
 use Rattle.twin.proofs.write.Statement.{statement}
 use Rattle.twin.proofs.write.Tie as tie
-
-all-guests-requires : tie.Need-all-guests-requires
-all-guests-requires c κs = search needs
-
-write-requires : tie.Need-write-requires
-write-requires c κs = search needs
 
 returns : tie.Need-returns
 returns c =
@@ -24,4 +18,4 @@ returns c =
     ap (whole s n (λ i. fits i .fits)) (c .before .write .ensures) ∙ rw (c .before .before .before .before .before .all-guests .ensures) (write-is s n (λ i. fits i .fits) (a .offset) (a .lanes) (a .value))
 
 pub write-spec : {M : Type 1} → statement M
-write-spec = tie.close (tie.spec all-guests-requires write-requires returns)
+write-spec = tie.close (tie.spec (λ c κs. search needs) (λ c κs. search needs) returns)

@@ -1,4 +1,0 @@
-pub mod Digits
-pub mod Fields
-pub mod Long
-pub mod Forms

@@ -1,4 +1,0 @@
-pub mod Bridge
-pub mod ReadOnly
-pub mod One
-pub mod Rows

@@ -1,4 +1,0 @@
-pub mod Long
-pub mod Digits
-pub mod Exactly
-pub mod Forms

@@ -1,4 +1,0 @@
-pub mod Ascii
-pub mod Hex
-pub mod Line
-pub mod Form

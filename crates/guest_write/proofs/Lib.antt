@@ -1,0 +1,3 @@
+pub mod Tested
+pub mod Bridge
+pub mod Entry

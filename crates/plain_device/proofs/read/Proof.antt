@@ -1,0 +1,20 @@
+-- A read by value: the read over its bytes comes to the rule.
+use mathlib.Core.Path.{_≡_, _∙_}
+use Prim.Native.Nat.{ℕ}
+use lib.ListN.{length, getD}
+use mir.Syntax.{w8}
+use mir.Val.{Fits}
+use Rattle.plain_device.proofs.Bridge.{read-is}
+use borrow.Author.Needs.{needs}
+use Rattle.plain_device.proofs.read.Statement.{statement}
+use Rattle.plain_device.proofs.read.Tie as tie
+
+returns : tie.Need-returns
+returns c =
+    let a = c .before .before .before .args in
+    let n : length (a .s .bytes) ≡ 256 = search needs in
+    let fits : (i : ℕ) → Fits w8 (getD (a .s .bytes) i 0) = λ i. search needs in
+    c .read-in .ensures ∙ read-is (a .s .bytes) (λ i. fits i .fits) (a .offset) (a .lanes)
+
+pub read-spec : {M : Type 1} → statement M
+read-spec = tie.close (tie.spec (λ c κs. search needs) returns)

@@ -1,0 +1,15 @@
+-- Whether a sheet's answer accepts.
+use Rattle.sheet_rules.specs.Check.{accepts}
+use borrow.Author.Needs.{needs}
+use Rattle.sheet_check.proofs.good.Statement.{statement}
+use Rattle.sheet_check.proofs.good.Tie as tie
+
+number-requires : tie.Need-number-requires
+number-requires c κs = search needs
+
+returns : tie.Need-returns
+unfolding accepts
+returns c = rw (c .number .ensures)
+
+pub good-spec : {M : Type 1} → statement M
+good-spec = tie.close (tie.spec number-requires returns)

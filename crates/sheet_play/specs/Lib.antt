@@ -1,3 +1,0 @@
-pub mod Player
-pub mod Events
-pub mod Box
