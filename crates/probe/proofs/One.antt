@@ -16,7 +16,7 @@ answers memory64 e = Memory64 e
 abbrev pub probeHears : Reply → Probed
 probeHears r = answers (r .kind) (r .exponent)
 
-heard : (p : Probed) → probeHears (probeSays p) ≡ p
+pub heard : (p : Probed) → probeHears (probeSays p) ≡ p
 heard (Io e) = refl
 heard (Memory32 e) = refl
 heard (Memory64 e) = refl

@@ -23,13 +23,13 @@ one-step p q e f = one-answer stepped hears heard p q e f
 
 -- ---- a claim
 
-abbrev claimHears : Claimed → Claim
+abbrev pub claimHears : Claimed → Claim
 claimHears unclaimed = C.None
 claimHears (claimed translation o) = C.Translation o
 claimHears (claimed aperture o) = C.Aperture o
 claimHears (claimed io o) = C.Io o
 
-claim-heard : (a : Claim) → claimHears (claimSays a) ≡ a
+pub claim-heard : (a : Claim) → claimHears (claimSays a) ≡ a
 claim-heard (C.Translation o) = refl
 claim-heard (C.Aperture o) = refl
 claim-heard (C.Io o) = refl

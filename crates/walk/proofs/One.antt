@@ -22,7 +22,7 @@ ends r =
 abbrev pub walkHears : Reply → Walked
 walkHears r = record { found = ends r; count = r .count }
 
-heard-by-end : (f : Found) (n : ℕ) → walkHears (saysOf f n) ≡ record { found = f; count = n }
+pub heard-by-end : (f : Found) (n : ℕ) → walkHears (saysOf f n) ≡ record { found = f; count = n }
 heard-by-end F.Length n = refl
 heard-by-end F.Absent n = refl
 heard-by-end F.Pointer n = refl
