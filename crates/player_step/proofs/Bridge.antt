@@ -2,6 +2,7 @@
 use mathlib.Core.Path.{_≡_, refl, ap}
 use mathlib.Core.List.{List}
 use Prim.Native.Nat.{ℕ}
+use Rattle.answer.specs.Refusals.{no}
 use Rattle.map.specs.Map.{guests, hosts}
 use Rattle.rules.specs.declared.State.{State}
 use Rattle.rules.specs.declared.Event.the-variants.{Read, Write, PortRead, PortWrite, HostUpdate, EndSignal, PlatformReset, InWindow}
@@ -47,3 +48,7 @@ pub asked-good : (q : Asked) (s : State) → Good s → Good (askedIn q s .state
 asked-good (Q.Event e) s g = event-good e s g
 asked-good (Q.Look k) s g = g
 asked-good Q.Nothing s g = g
+
+-- a line of no form is refused 9, and changes nothing: the paper's number
+pub nothing-is-9 : (s : State) → askedIn Q.Nothing s ≡ record { reply = no 9; state = s }
+nothing-is-9 s = refl
