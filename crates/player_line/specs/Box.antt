@@ -1,4 +1,4 @@
--- A machine over lent bytes that answers lines: the session player, or a sheet's. proofs/Bridge.antt shows that each comes to its rules.
+-- A machine over lent bytes that answers lines: the session player, or a sheet's. proofs/Player.antt and proofs/Sheet.antt show that each comes to its rules.
 use mathlib.Core.List.{List}
 use mathlib.Core.Bool.{Bool}
 use Prim.Native.Nat.{ℕ}
