@@ -2,9 +2,14 @@
 ghost use mathlib.Core.Path.{_≡_};
 ghost use Rattle.answer.specs.Refusals.{fine, no, OFFSET};
 ghost use Rattle.answer.specs.Said.{numberOf};
-ghost use Rattle.rules.specs.Access.{badOffset, admit, admits};
+ghost use Rattle.access.specs.Access.{badOffset, admit, admits};
 use answer::Refusal;
-use rules::Admitted;
+
+// What is asked of an access before it is made.
+pub enum Admitted {
+    Yes,
+    No(Refusal),
+}
 
 // Refused with `r` where its offset is bad, and then for its lanes.
 pub fn admit(bad: bool, r: Refusal, lanes: u32) -> Admitted

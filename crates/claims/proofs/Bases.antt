@@ -13,7 +13,7 @@ use Rattle.bits.proofs.Laws.{bit<2, little-bits, joined-little, number-above}
 use Rattle.map.specs.Registers.{PCICMD2, GTTMMADR, GMADR, IOBAR, MSAC}
 use Rattle.rules.specs.declared.State.{State}
 use Rattle.rules.specs.Access.{byte}
-use Rattle.rules.specs.Guest.{sizeOf, exponentOf}
+use Rattle.rules.specs.Device.{sizeOf, exponentOf}
 use Rattle.rules.specs.Claims.{unclaimed, base, translationExponent, ioExponent, holds, off, apertureClaim, memoryClaimOf, ioClaimOf}
 use Rattle.claims.specs.Windows.{registerAt, holdsOf, inAperture, apertureOf, memoryOf, ioOf}
 

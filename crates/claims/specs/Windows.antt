@@ -6,7 +6,7 @@ use lib.ListN.{getD}
 use Rattle.bits.specs.Bits.{little}
 use Rattle.bits.specs.Choice.{if_then_else_, _or_, _is_}
 use Rattle.map.specs.Registers.{GTTMMADR, GMADR, IOBAR, MSAC, PMCS}
-use Rattle.rules.specs.Guest.{sizeOf, exponentOf}
+use Rattle.rules.specs.Device.{sizeOf, exponentOf}
 use Rattle.rules.specs.Claims.{Claimed, unclaimed, claimed, translation, aperture, io, translationExponent, ioExponent}
 
 -- the register of n bytes at a place

@@ -3,7 +3,8 @@ ghost use mathlib.Core.Path.{_≡_};
 ghost use Prim.Native.Nat.{_+_, _*_, _^_};
 ghost use Rattle.answer.specs.Said.{numberOf, says};
 ghost use Rattle.rules.specs.Answers.{claimSays};
-ghost use Rattle.rules.specs.Read.{readOf};
+ghost use Rattle.rules.specs.Access.{up};
+ghost use Rattle.guest_read.specs.Shown.{readLanes};
 ghost use Rattle.probe.specs.Probe.{probeOf, probeSays};
 ghost use Rattle.walk.specs.Walk.{walkOf, saysOf};
 ghost use Rattle.asked.specs.Asked.{answer, claim, range, item, shownSays};
@@ -13,7 +14,6 @@ use answer::Refusal;
 use asked::Shown;
 use probe::Probed;
 use rules::Claim;
-use rules::State;
 use walk::Found;
 
 // A refusal's number, or 0, and the two halves of a value.
@@ -137,8 +137,9 @@ pub fn walk(s: &[u8], want: u8) -> u64
     packed(walk_told(f, w.count))
 }
 
-pub fn read(s: State, offset: u32, lanes: u32) -> u64
-    ensures { λ r. ⌜ heard r ≡ heardOf (answer (readOf s offset lanes)) ⌝ }
+// Over the bytes and the flag that a function reset is under way.
+pub fn read(m: &[u8; 256], busy: u8, offset: u32, lanes: u32) -> u64
+    ensures { λ r. ⌜ heard r ≡ heardOf (answer (readLanes (up busy) (now (m .entry)) offset lanes)) ⌝ }
 {
-    answered(twin::read(s, offset, lanes))
+    answered(guest_read::read(m, busy, offset, lanes))
 }

@@ -11,12 +11,15 @@ use Rattle.bits.specs.Choice.{_and_, _is_}
 use Rattle.bits.proofs.Below.{both-left, both-right}
 use Rattle.answer.proofs.Same.{sameReply, same-reply}
 use Rattle.answer.proofs.Agree.{one-answer}
-use Rattle.map.specs.Map.{rows, rowAt, classOf, defaults}
+use Rattle.any_map.specs.Map.{rowAt, classAt, defaults}
+use Rattle.map.specs.Map.{rows}
 use Rattle.rules.specs.declared.State.{State}
-use Rattle.rules.specs.Access.{enabled, byteFor}
-use Rattle.rules.specs.Guest.{bitsTaken, takenBy, takes, store, clear, starts, storedBit, sizeAfter, bitAfter, ofField, touches, flagsAfter, writtenOf, stepOf, writeOf}
-use Rattle.rules.specs.Reset.{reset, endedBit, endedOf, endOf}
-use Rattle.rules.specs.Read.{pointer, shownBit, readBit, readValue, readOf}
+use Rattle.access.specs.Access.{enabled, byteFor}
+use Rattle.any_device.specs.Device.{heldBack, storedBit, swept, writtenBit, touches, endedBit, shownBit, placesOf}
+use Rattle.rules.specs.Device.{bitsTaken, takenBy, holdsBy, sweeps, pointer, spans}
+use Rattle.rules.specs.Guest.{starts, flagsAfter, writtenOf, stepOf, writeOf}
+use Rattle.rules.specs.Reset.{endedOf, endOf}
+use Rattle.rules.specs.Read.{readBit, readValue, readOf}
 use Rattle.rules.specs.Fresh.{freshOf}
 use Rattle.rules.specs.Events.{happens}
 use Rattle.probe.specs.Probe.{Reply as Probed, Kind, none, io, memory32, memory64, probeOf}
@@ -93,7 +96,7 @@ rows-hold (r ∷ rs) t = (row-holds r (both-left (holds r) (all rs) t), rows-hol
 -- ---- the claim
 
 passes : T (all examples)
-unfolding all holds answered examples numberOf rows rowAt classOf defaults enabled byteFor bitsTaken takenBy takes store clear starts storedBit sizeAfter bitAfter ofField touches flagsAfter writtenOf stepOf writeOf reset endedBit endedOf endOf pointer shownBit readBit readValue readOf freshOf happens probeOf trailingZeros
+unfolding all holds answered examples numberOf rows rowAt classAt defaults enabled byteFor bitsTaken takenBy holdsBy sweeps spans placesOf heldBack swept writtenBit starts storedBit touches flagsAfter writtenOf stepOf writeOf endedBit endedOf endOf pointer shownBit readBit readValue readOf freshOf happens probeOf trailingZeros
 passes = tt
 
 pub examples-hold : Each Holds examples

@@ -1,13 +1,11 @@
 // The paper's checked examples, run from fresh states: a function for each of its bullets, in its order.
-mod scan;
-
-use examples_text::access::end_signal;
-use examples_text::access::guest_read;
-use examples_text::access::guest_write;
-use examples_text::access::latch;
-use examples_text::access::port_read;
-use scan::capability_walk;
-use scan::size_probe;
+use examples_scan::capability_walk;
+use examples_scan::size_probe;
+use examples_text::end_signal;
+use examples_text::guest_read;
+use examples_text::guest_write;
+use examples_text::latch;
+use examples_text::port_read;
 use twin::fresh;
 
 fn vid2() {

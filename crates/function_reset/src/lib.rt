@@ -5,14 +5,13 @@ ghost use Rattle.function_reset.specs.Bytes.{resetBytes, endBytes, endFl
 use rules::Flags;
 use rules::Mapped;
 
-// F bits return to default, and the bit that starts the reset reads 0.
+// F bits return to default, and so does the bit that starts the reset.
 fn reset(m: &mut [u8; 256])
     ensures { λ _. ⌜ now (m .exit) ≡ resetBytes (now (m .entry)) ⌝ }
 {
     let masks = map::all_resets();
     let defaults = map::all_defaults();
     plain::reset(m, &masks, &defaults);
-    m[map::AFCTL] = bits::blend(0x01, m[map::AFCTL], 0);
 }
 
 // The host's end signal; the flags afterwards are handed back. Where no function reset is under way nothing changes.

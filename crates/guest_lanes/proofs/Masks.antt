@@ -12,17 +12,19 @@ use Rattle.bits.specs.Choice.{pick, either, mark, allBelow}
 use Rattle.bits.proofs.Laws.{number-ext, number-none}
 use Rattle.bits.proofs.Below.{below, other}
 use Rattle.map.specs.Registers.{GMADR, SVID2, SID2, MSAC, PMCS, SWSCI}
-use Rattle.map.specs.Class.{Class, readOnly, host, guest, guestF, once, sizeCode, aperture, power, computed, resetStart}
-use Rattle.map.specs.Map.{rows, rowAt, classOf}
-use Rattle.map.proofs.Classes.{past-the-map}
+use Rattle.any_device.specs.Class.{Stored, never, always, once, until, special}
+use Rattle.map.specs.Class.{Special}
+use Rattle.any_map.specs.Map.{rowAt, classAt}
+use Rattle.map.specs.Map.{rows, classOf}
+use Rattle.map.proofs.Classes.{past-the-rows}
 use Rattle.rules.specs.declared.Flags.{Flags}
-use Rattle.rules.specs.Guest.{bitsTaken, takenBy, takes, sizeOf}
+use Rattle.rules.specs.Device.{bitsTaken, takenBy, holdsBy, sizeOf}
 use Rattle.guest_lanes.specs.Lane.{takenMask, ifClosed, leaves, heldOf}
 
 -- ---- the size code
 
 taken-bits : (code : ℕ) (a b : Bool) → eqb code 3 ≡ a → eqb code 1 ≡ b → takenMask code ≡ pick a 0x18 (pick b 0x08 0)
-unfolding numberOf rows rowAt classOf bitsTaken takenBy takenMask
+unfolding numberOf rows rowAt classAt bitsTaken takenBy takenMask
 taken-bits code true b p q = rw p
 taken-bits code false true p q = rw (p, q)
 taken-bits code false false p q = rw (p, q)
@@ -32,7 +34,7 @@ taken-is code = taken-bits code _ _ refl refl
 
 module _ (c : Flags) (code w : ℕ) where
   aperture-held : (a b : Bool) → eqb code 3 ≡ a → eqb code 1 ≡ b → heldOf c code w (GMADR + 3) ≡ pick a 0x18 (pick b 0x08 0)
-  unfolding numberOf rows rowAt classOf bitsTaken takenBy takes heldOf
+  unfolding numberOf rows rowAt classAt bitsTaken takenBy holdsBy leaves heldOf
   aperture-held true b p q = rw p
   aperture-held false true p q = rw (p, q)
   aperture-held false false p q = rw (p, q)
@@ -40,29 +42,29 @@ module _ (c : Flags) (code w : ℕ) where
   -- ---- the write-once fields
 
   svid2-held : (b : Bool) → eqb (c .svid2) 0 ≡ b → (heldOf c code w SVID2 ≡ pick b 0 0xFF) × (heldOf c code w (SVID2 + 1) ≡ pick b 0 0xFF)
-  unfolding numberOf rows rowAt classOf takes heldOf
+  unfolding numberOf rows rowAt classAt holdsBy leaves heldOf
   svid2-held true p = (rw p, rw p)
   svid2-held false p = (rw p, rw p)
 
   sid2-held : (b : Bool) → eqb (c .sid2) 0 ≡ b → (heldOf c code w SID2 ≡ pick b 0 0xFF) × (heldOf c code w (SID2 + 1) ≡ pick b 0 0xFF)
-  unfolding numberOf rows rowAt classOf takes heldOf
+  unfolding numberOf rows rowAt classAt holdsBy leaves heldOf
   sid2-held true p = (rw p, rw p)
   sid2-held false p = (rw p, rw p)
 
   swsci15-held : (b : Bool) → eqb (c .swsci15) 0 ≡ b → heldOf c code w (SWSCI + 1) ≡ pick b 0 0x80
-  unfolding numberOf rows rowAt classOf takes heldOf
+  unfolding numberOf rows rowAt classAt holdsBy leaves heldOf
   swsci15-held true p = rw p
   swsci15-held false p = rw p
 
   -- ---- MSAC and PMCS
 
   size-held : (b : Bool) → eqb (sizeOf w) 2 ≡ b → heldOf c code w MSAC ≡ pick b 0x06 0
-  unfolding numberOf rows rowAt classOf takes heldOf
+  unfolding numberOf rows rowAt classAt holdsBy leaves heldOf
   size-held true p = rw p
   size-held false p = rw p
 
   power-held : (a b : Bool) → eqb (field w 1 0) 0 ≡ a → eqb (field w 1 0) 3 ≡ b → heldOf c code w PMCS ≡ pick a 0 (pick b 0 0x03)
-  unfolding numberOf rows rowAt classOf takes heldOf
+  unfolding numberOf rows rowAt classAt holdsBy leaves heldOf
   power-held true b p q = rw p
   power-held false true p q = rw (p, q)
   power-held false false p q = rw (p, q)
@@ -98,58 +100,48 @@ module _ (c : Flags) (code w : ℕ) where
 -- ---- the other bytes
 
 -- neither the state nor the byte written has a say
-abbrev plain : Class → Bool
-plain readOnly = true
-plain host = true
-plain guest = true
-plain guestF = true
+abbrev plain : Stored Special → Bool
+plain never = true
+plain always = true
 plain (once f) = false
-plain sizeCode = false
-plain (aperture b) = false
-plain power = false
-plain computed = true
-plain resetStart = true
+plain (until cs) = false
+plain (special k) = false
 
-plain-leaves : (c : Flags) (code w : ℕ) (k : Class) → T (plain k) → leaves c code w k ≡ false
-unfolding takes
-plain-leaves c code w readOnly t = refl
-plain-leaves c code w host t = refl
-plain-leaves c code w guest t = refl
-plain-leaves c code w guestF t = refl
+plain-leaves : (c : Flags) (code w : ℕ) (st : Stored Special) → T (plain st) → leaves c code w st ≡ false
+unfolding leaves
+plain-leaves c code w never t = refl
+plain-leaves c code w always t = refl
 plain-leaves c code w (once f) t = absurd t
-plain-leaves c code w sizeCode t = absurd t
-plain-leaves c code w (aperture b) t = absurd t
-plain-leaves c code w power t = absurd t
-plain-leaves c code w computed t = refl
-plain-leaves c code w resetStart t = refl
+plain-leaves c code w (until cs) t = absurd t
+plain-leaves c code w (special k) t = absurd t
 
-special : ℕ → Bool
-special i = either (eqb i (GMADR + 3)) (either (eqb (i / 2) (SVID2 / 2)) (either (eqb (i / 2) (SID2 / 2)) (either (eqb i (SWSCI + 1)) (either (eqb i MSAC) (eqb i PMCS)))))
+ruled : ℕ → Bool
+ruled i = either (eqb i (GMADR + 3)) (either (eqb (i / 2) (SVID2 / 2)) (either (eqb (i / 2) (SID2 / 2)) (either (eqb i (SWSCI + 1)) (either (eqb i MSAC) (eqb i PMCS)))))
 
 plain-at : ℕ → Bool
-plain-at i = either (special i) (allBelow 8 (λ (j : ℕ). plain (classOf i j)))
+plain-at i = either (ruled i) (allBelow 8 (λ (j : ℕ). plain (classOf i j .stored)))
 
 all-plain : T (allBelow 256 plain-at)
-unfolding plain-at special rows rowAt classOf
+unfolding plain-at ruled rows rowAt classAt
 all-plain = tt
 
-inner-other : (c : Flags) (code w i : ℕ) → i < 256 → special i ≡ false → heldOf c code w i ≡ 0
+inner-other : (c : Flags) (code w i : ℕ) → i < 256 → ruled i ≡ false → heldOf c code w i ≡ 0
 unfolding heldOf plain-at
 inner-other c code w i h e =
-    let t : T (allBelow 8 (λ (j : ℕ). plain (classOf i j))) = other (special i) _ e (below 256 plain-at all-plain i h) in
-    number-ext 8 (λ (j : ℕ). mark (leaves c code w (classOf i j))) (λ (j : ℕ). 0) (λ j l. ap mark (plain-leaves c code w (classOf i j) (below 8 (λ (j : ℕ). plain (classOf i j)) t j l))) ∙ number-none 8
+    let t : T (allBelow 8 (λ (j : ℕ). plain (classOf i j .stored))) = other (ruled i) _ e (below 256 plain-at all-plain i h) in
+    number-ext 8 (λ (j : ℕ). mark (leaves c code w (classOf i j .stored))) (λ (j : ℕ). 0) (λ j l. ap mark (plain-leaves c code w (classOf i j .stored) (below 8 (λ (j : ℕ). plain (classOf i j .stored)) t j l))) ∙ number-none 8
 
 past-other : (c : Flags) (code w i : ℕ) → 256 ≤ i → heldOf c code w i ≡ 0
-unfolding heldOf
-past-other c code w i h = number-ext 8 (λ (j : ℕ). mark (leaves c code w (classOf i j))) (λ (j : ℕ). 0) (λ j l. rw (past-the-map i j h)) ∙ number-none 8
+unfolding heldOf leaves
+past-other c code w i h = number-ext 8 (λ (j : ℕ). mark (leaves c code w (classOf i j .stored))) (λ (j : ℕ). 0) (λ j l. rw (past-the-rows i j h)) ∙ number-none 8
 
 pub at-other : (c : Flags) (code w i : ℕ) → (i ≡ GMADR + 3 → ⊥) → (i / 2 ≡ SVID2 / 2 → ⊥) → (i / 2 ≡ SID2 / 2 → ⊥) → (i ≡ SWSCI + 1 → ⊥) → (i ≡ MSAC → ⊥) → (i ≡ PMCS → ⊥) → heldOf c code w i ≡ 0
-unfolding special
+unfolding ruled
 at-other c code w i n1 n2 n3 n4 n5 n6 =
-    let e : special i ≡ false = simp (ne-eqb i (GMADR + 3) n1, ne-eqb (i / 2) (SVID2 / 2) n2, ne-eqb (i / 2) (SID2 / 2) n3, ne-eqb i (SWSCI + 1) n4, ne-eqb i MSAC n5, ne-eqb i PMCS n6) in
+    let e : ruled i ≡ false = simp (ne-eqb i (GMADR + 3) n1, ne-eqb (i / 2) (SVID2 / 2) n2, ne-eqb (i / 2) (SID2 / 2) n3, ne-eqb i (SWSCI + 1) n4, ne-eqb i MSAC n5, ne-eqb i PMCS n6) in
     go (ltb i 256) refl e
   where
-    go : (b : Bool) → ltb i 256 ≡ b → special i ≡ false → heldOf c code w i ≡ 0
+    go : (b : Bool) → ltb i 256 ≡ b → ruled i ≡ false → heldOf c code w i ≡ 0
     go true p e = inner-other c code w i (ltb-true i 256 p) e
     go false p e = past-other c code w i (ltb-false i 256 p)
 

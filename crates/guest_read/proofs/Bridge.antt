@@ -15,11 +15,13 @@ use Rattle.bits.proofs.Laws.{number-ext, number-bits}
 use Rattle.bits.proofs.Places.{changed}
 use Rattle.bits.proofs.Below.{below, same, same-eq, pick-has}
 use Rattle.map.specs.Registers.{CAPPOINT, CAPL}
-use Rattle.map.specs.Class.{computed, sameClass}
-use Rattle.map.specs.Map.{rows, rowAt, classOf}
+use Rattle.any_device.specs.Device as D
+use Rattle.any_map.specs.Map.{rowAt, classAt}
+use Rattle.map.specs.Map.{rows, classOf}
 use Rattle.rules.specs.declared.State.{State}
 use Rattle.rules.specs.Access.{byte, busy}
-use Rattle.rules.specs.Read.{pointer, shownBit, readBit, readValue, readOf, imageOf}
+use Rattle.rules.specs.Device.{pointer}
+use Rattle.rules.specs.Read.{shownBit, readBit, readValue, readOf, imageOf}
 use Rattle.plain.specs.Bytes.{drivenOf}
 use Rattle.plain.proofs.Bridge.{joined-bit, driven-is, reply-is}
 use Rattle.guest_read.specs.Shown.{shownByte, shownDword, shownBytes, readDword, readLanes, imageBytes}
@@ -27,15 +29,15 @@ use Rattle.guest_read.specs.Shown.{shownByte, shownDword, shownBytes, re
 -- ---- CAPPOINT is the computed byte
 
 computed-at : ℕ → Bool
-computed-at i = allBelow 8 (λ (j : ℕ). same (sameClass (classOf i j) computed) (eqb i CAPPOINT))
+computed-at i = allBelow 8 (λ (j : ℕ). same (classOf i j .computed) (eqb i CAPPOINT))
 
 all-computed : T (allBelow 256 computed-at)
-unfolding computed-at rows rowAt classOf
+unfolding computed-at rows rowAt classAt
 all-computed = tt
 
-computed-is : (i j : ℕ) → i < 256 → j < 8 → sameClass (classOf i j) computed ≡ eqb i CAPPOINT
+computed-is : (i j : ℕ) → i < 256 → j < 8 → classOf i j .computed ≡ eqb i CAPPOINT
 unfolding computed-at
-computed-is i j h k = same-eq _ _ (below 8 (λ (j : ℕ). same (sameClass (classOf i j) computed) (eqb i CAPPOINT)) (below 256 computed-at all-computed i h) j k)
+computed-is i j h k = same-eq _ _ (below 8 (λ (j : ℕ). same (classOf i j .computed) (eqb i CAPPOINT)) (below 256 computed-at all-computed i h) j k)
 
 -- ---- bytes and dwords
 
@@ -53,13 +55,13 @@ ones-bit : (n : ℕ) → n < 32 → bit 0xFFFFFFFF n ≡ 1
 ones-bit n h = eqb→eq _ _ (below 32 (λ (n : ℕ). eqb (bit 0xFFFFFFFF n) 1) tt n h)
 
 module _ (s : State) (b : (i : ℕ) → byte s i < 2 ^ 8) where
-  shown-pointer : pick (eqb (getD (s .bytes) CAPL 0 % 2) 1) 0xD0 0x90 ≡ pointer s
+  shown-pointer : pick (eqb (getD (s .bytes) CAPL 0 % 2) 1) 0xD0 0x90 ≡ pointer (s .bytes)
   unfolding pointer
   shown-pointer = rw div-one
 
   shown-bit : (i j : ℕ) → i < 256 → j < 8 → bit (shownByte (s .bytes) i) j ≡ shownBit s i j
-  unfolding shownByte shownBit
-  shown-bit i j h k = rw (shown-pointer, computed-is i j h k) (chosen-bit (eqb i CAPPOINT) (pointer s) (byte s i) j)
+  unfolding shownByte D.shownBit
+  shown-bit i j h k = rw (shown-pointer, computed-is i j h k) (chosen-bit (eqb i CAPPOINT) (pointer (s .bytes)) (byte s i) j)
 
   shown< : (i : ℕ) → shownByte (s .bytes) i < 2 ^ 8
   unfolding shownByte

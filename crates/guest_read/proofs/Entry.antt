@@ -4,8 +4,8 @@ use mathlib.Core.Bool.{Bool}
 use mathlib.Core.List.{List}
 use Prim.Native.Nat.{ℕ}
 use Rattle.answer.specs.Refusals.{fine, ok, no, OFFSET}
-use Rattle.rules.specs.Access.{badOffset, admit}
-use Rattle.rules.proofs.Access.{not-admitted, admitted}
+use Rattle.access.specs.Access.{badOffset, admit}
+use Rattle.access.proofs.Access.{not-admitted, admitted}
 use Rattle.plain.specs.Bytes.{drivenOf}
 use Rattle.guest_read.specs.Shown.{readDword, readLanes}
 

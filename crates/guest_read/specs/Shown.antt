@@ -8,7 +8,7 @@ use Rattle.bits.specs.Choice.{if_then_else_, _is_}
 use Rattle.bits.specs.Places.{bytes}
 use Rattle.answer.specs.Refusals.{Reply}
 use Rattle.map.specs.Registers.{CAPPOINT, CAPL}
-use Rattle.rules.specs.Plain.{readReply}
+use Rattle.plain.specs.Plain.{readReply}
 use Rattle.plain.specs.Bytes.{drivenOf}
 
 -- ---- as the bytes are shown while no function reset is under way

@@ -4,8 +4,8 @@ ghost use Prim.Native.Nat.{_+_, _*_, _%_, _<_};
 ghost use Rattle.rules.specs.Access.{up};
 ghost use Rattle.answer.specs.Said.{says};
 ghost use Rattle.guest_read.specs.Shown.{shownByte, shownDword, shownBytes, readDword, readLanes, imageBytes};
+use access::Admitted;
 use answer::Answer;
-use rules::Admitted;
 
 // ---- as the bytes are shown while no function reset is under way
 

@@ -4,8 +4,8 @@ use mathlib.Core.List.{List}
 use Prim.Native.Nat.{ℕ}
 use Rattle.answer.specs.Refusals.{fine, no, OFFSET}
 use Rattle.rules.specs.declared.Flags.{Flags}
-use Rattle.rules.specs.Access.{badOffset, admit}
-use Rattle.rules.proofs.Access.{not-admitted, admitted}
+use Rattle.access.specs.Access.{badOffset, admit}
+use Rattle.access.proofs.Access.{not-admitted, admitted}
 use Rattle.guest_write.specs.Bytes.{lent, takenBytes, writeLanes}
 
 module _ (guest : List ℕ) (c : Flags) (m : List ℕ) (o l v : ℕ) where

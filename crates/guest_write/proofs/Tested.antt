@@ -2,21 +2,24 @@
 use mathlib.Core.Path.{_≡_, refl, sym, subst, _∙_}
 use mathlib.Core.List.{List}
 use mathlib.Core.Bool.{Bool, true, false, not}
-use Prim.Native.Nat.{ℕ, _+_, _*_, _/_, _%_, _<_}
+use Prim.Native.Nat.{ℕ, suc, _+_, _*_, _/_, _%_, _<_}
 use native.Mathlib.Omega.{arith}
 use native.Mathlib.Nat.{div-one}
 use lib.Dec.{T, eqb, ltb, ltb→lt}
+use lib.ListN.{getD}
 use borrow.Author.Tests.{ne-eqb, eqb-true, eqb-false}
 use Rattle.bits.specs.Bits.{bit}
 use Rattle.bits.specs.Choice.{pick, both, either, allBelow, anyBelow}
 use Rattle.bits.proofs.Below.{below, same, same-eq, any-ext}
 use Rattle.map.specs.Registers.{SVID2, SID2, SWSCI, MSAC, AFCTL}
-use Rattle.map.specs.Class.{Field, svid2, sid2, swsci15}
-use Rattle.map.specs.Map.{rows, rowAt, classOf}
+use Rattle.map.specs.Class.{Field, svid2, sid2, swsci15, fieldNumber}
 use Rattle.rules.specs.declared.Flags.{Flags}
-use Rattle.rules.specs.Access.{enabled, byteFor}
-use Rattle.rules.specs.Guest.{starts, ofField, touches, raised}
-use Rattle.rules.proofs.Access.{not-within}
+use Rattle.access.specs.Access.{enabled, byteFor}
+use Rattle.any_device.specs.Device as D
+use Rattle.any_device.specs.Device.{raised, placesOf}
+use Rattle.rules.specs.Device.{spans, builtIn}
+use Rattle.rules.specs.Guest.{starts, touches}
+use Rattle.access.proofs.Access.{not-within}
 use Rattle.guest_write.specs.Bytes.{storedBytes, clearedBytes, clearIf, stepBytes, raisedOf}
 
 -- ---- MSAC
@@ -62,18 +65,22 @@ hit svid2 l = l % 4
 hit sid2 l = l / 4
 hit swsci15 l = l / 2 % 2
 
+-- a byte of the field, by the table of places
+abbrev placed : Field → ℕ → Bool
+placed f i = eqb (getD (builtIn .places) i 0) (suc (fieldNumber f))
+
 within-at : Field → ℕ → Bool
-within-at f i = same (ofField f i) (within f i)
+within-at f i = same (placed f i) (within f i)
 
 all-within : (f : Field) → T (allBelow 256 (within-at f))
-unfolding within-at ofField rows rowAt classOf
+unfolding within-at spans placesOf
 all-within svid2 = tt
 all-within sid2 = tt
 all-within swsci15 = tt
 
-is-within : (f : Field) (i : ℕ) → i < 256 → ofField f i ≡ within f i
+is-within : (f : Field) (i : ℕ) → i < 256 → placed f i ≡ within f i
 unfolding within-at
-is-within f i h = same-eq (ofField f i) (within f i) (below 256 (within-at f) (all-within f) i h)
+is-within f i h = same-eq (placed f i) (within f i) (below 256 (within-at f) (all-within f) i h)
 
 touch-at : Field → ℕ → ℕ → Bool
 touch-at f d l = same (anyBelow 4 (λ (k : ℕ). both (eqb (bit l k) 1) (within f (d * 4 + k)))) (both (eqb (d * 4) (dword f)) (not (eqb (hit f l) 0)))
@@ -89,10 +96,10 @@ unfolding touch-at
 touch-law f d l h b = same-eq _ _ (below 16 (touch-at f d) (below 64 (λ (d : ℕ). allBelow 16 (touch-at f d)) (all-touch f) d h) l b)
 
 pub touches-is : (f : Field) (o l : ℕ) → o + 3 < 256 → o % 4 ≡ 0 → l < 16 → touches o l f ≡ both (eqb o (dword f)) (not (eqb (hit f l) 0))
-unfolding touches
+unfolding D.touches
 touches-is f o l h a b =
     let e : o / 4 * 4 ≡ o = omega arith in
-    any-ext 4 (λ (k : ℕ). both (eqb (bit l k) 1) (ofField f (o + k))) (λ (k : ℕ). both (eqb (bit l k) 1) (within f (o + k))) (λ k j. rw (is-within f (o + k) (omega arith)))
+    any-ext 4 (λ (k : ℕ). both (eqb (bit l k) 1) (placed f (o + k))) (λ (k : ℕ). both (eqb (bit l k) 1) (within f (o + k))) (λ k j. rw (is-within f (o + k) (omega arith)))
     ∙ subst (λ (x : ℕ). anyBelow 4 (λ (k : ℕ). both (eqb (bit l k) 1) (within f (x + k))) ≡ both (eqb x (dword f)) (not (eqb (hit f l) 0))) e (touch-law f (o / 4) l (omega arith) b)
 
 -- ---- AFCTL

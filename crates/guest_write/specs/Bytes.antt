@@ -8,8 +8,10 @@ use Rattle.bits.specs.Choice.{if_then_else_, _is_}
 use Rattle.answer.specs.Refusals.{fine, Reply, ok, no, OFFSET, LANES}
 use Rattle.map.specs.Registers.{GMADR, MSAC}
 use Rattle.rules.specs.declared.Flags.{Flags}
-use Rattle.rules.specs.Access.{up, enabled, badOffset, admit}
-use Rattle.rules.specs.Guest.{sizeOf, flagsAfter}
+use Rattle.rules.specs.Access.{up}
+use Rattle.access.specs.Access.{enabled, badOffset, admit}
+use Rattle.rules.specs.Device.{sizeOf}
+use Rattle.rules.specs.Guest.{flagsAfter}
 use Rattle.answer.specs.Said.{says}
 use Rattle.plain.specs.Bytes.{storedOf}
 use Rattle.guest_lanes.specs.Lane.{takenMask, reachOf}

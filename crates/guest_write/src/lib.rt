@@ -4,8 +4,8 @@ ghost use Prim.Native.Nat.{_+_, _%_, _<_};
 ghost use Rattle.answer.specs.Refusals.{fine};
 ghost use Rattle.rules.specs.Guest.{flagsAfter};
 ghost use Rattle.guest_write.specs.Bytes.{storedBytes, clearedBytes, stepBytes, raisedOf, lent, takenBytes, writeLanes, wrote};
+use access::Admitted;
 use answer::Answer;
-use rules::Admitted;
 use rules::Flags;
 
 // The dword that MSAC stands in.

@@ -12,16 +12,18 @@ use Rattle.bits.specs.Choice.{pick, both, _is_}
 use Rattle.bits.specs.Places.{bytes}
 use Rattle.bits.proofs.Laws.{number-ext, number-bits, blend-each, some-outside}
 use Rattle.bits.proofs.Below.{any-ext, mark-is}
-use Rattle.bits.proofs.Places.{set-at, as-bytes}
+use Rattle.bits.proofs.Places.{set-at, as-bytes, bytes-ext}
 use Rattle.answer.specs.Refusals.{fine, ok, no, OFFSET, NOT-HOST}
-use Rattle.map.specs.Class.{isHost}
+use Rattle.any_device.specs.Class.{device, byHost}
+use Rattle.any_device.specs.Device as D
 use Rattle.map.specs.Map.{classOf, hosts}
 use Rattle.map.proofs.Classes.{host-bit}
 use Rattle.rules.specs.declared.State.{State}
 use Rattle.rules.specs.Access.{holding, byte, Outcome, done, refused}
-use Rattle.rules.specs.Plain as P
-use Rattle.rules.specs.Plain.{Mask, held, under, updatedBit}
+use Rattle.plain.specs.Plain as P
+use Rattle.plain.specs.Plain.{Mask, held, under, updatedBit}
 use Rattle.rules.specs.Host.{notHost, hostBit, hostStepOf, hostOf}
+use Rattle.rules.proofs.Stored.{updated-form}
 use Rattle.host_updates.specs.Update.{outside, hostedBytes, Lent, lent, updateBytes}
 
 -- ---- the mask's bits outside the host mask
@@ -60,8 +62,8 @@ module _ (m : List ℕ) (n : length m ≡ 256) (b : (i : ℕ) → getD m i 0 < 2
 
 -- ---- the built-in function: the map's host masks
 
-map-has : (i j : ℕ) → i < 256 → j < 8 → under hosts i j ≡ isHost (classOf i j)
-map-has i j h k = rw (host-bit i j h k) (mark-is (isHost (classOf i j)))
+map-has : (i j : ℕ) → i < 256 → j < 8 → under hosts i j ≡ byHost device (classOf i j)
+map-has i j h k = rw (host-bit i j h k) (mark-is (byHost device (classOf i j)))
 
 module _ (s : State) (n : length (s .bytes) ≡ 256) (b : (i : ℕ) → byte s i < 2 ^ 8) where
   -- the state that lent bytes make, with all else as it was
@@ -69,10 +71,10 @@ module _ (s : State) (n : length (s .bytes) ≡ 256) (b : (i : ℕ) → byte s i
   whole r = record { reply = r .reply; state = holding s (r .bytes) (s .flags) }
 
   pub update-is : (o mask v : ℕ) → whole (updateBytes hosts (s .bytes) o mask v) ≡ hostOf s o mask v
-  unfolding hostOf hostStepOf hostBit notHost
-  update-is o mask v = rw (update-by (s .bytes) n b hosts (λ (i j : ℕ). isHost (classOf i j)) map-has o mask v) (go (ltb 255 o) (notHost o mask))
+  unfolding hostOf hostStepOf D.notHosted
+  update-is o mask v = rw (update-by (s .bytes) n b hosts (λ (i j : ℕ). byHost device (classOf i j)) map-has o mask v) (go (ltb 255 o) (notHost o mask))
     where
       go : (x y : Bool) → whole (pick x (lent (no OFFSET) (s .bytes)) (pick y (lent (no NOT-HOST) (s .bytes)) (lent fine (given (s .bytes) n b o mask v)))) ≡ pick x (refused OFFSET s) (pick y (refused NOT-HOST s) (done (hostStepOf s o mask v)))
       go true y = refl
       go false true = refl
-      go false false = refl
+      go false false = rw (bytes-ext (λ (i : ℕ). byteOf (updatedBit (held (s .bytes)) o mask v i)) (λ (i : ℕ). byteOf (hostBit s o mask v i)) (λ i h. number-ext 8 (updatedBit (held (s .bytes)) o mask v i) (hostBit s o mask v i) (λ j k. sym (updated-form s o mask v i j))))

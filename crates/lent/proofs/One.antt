@@ -4,9 +4,9 @@ use Prim.Native.Nat.{ℕ}
 use Rattle.rules.specs.declared.State.{State}
 use Rattle.door_told.specs.Heard.{Heard, heard}
 use Rattle.door_told.proofs.Halves.{one-number as one-of-halves}
-use Rattle.door_step.specs.Door.{Outside, outside}
-use Rattle.door_step.specs.Numbered.{leaves}
-use Rattle.door_step.specs.declared.Numbered.{Numbered}
+use Rattle.door_write.specs.Outside.{Outside, outside}
+use Rattle.door_write.specs.Numbered.{leaves}
+use Rattle.door_write.specs.declared.Numbered.{Numbered}
 
 -- a 64-bit number, of which number and value are heard
 pub one-heard : (p : Heard) (r t : ℕ) → heard r ≡ p → heard t ≡ p → r ≡ t

@@ -7,8 +7,9 @@ ghost use Rattle.probe.specs.Probe.{probeOf};
 ghost use Rattle.walk.specs.Walk.{walkOf};
 ghost use Rattle.asked.specs.Asked.{answer, range, item};
 ghost use Rattle.door_told.specs.Heard.{heard, heardOf};
-ghost use Rattle.door_step.specs.Door.{outside, doorOf};
-ghost use Rattle.door_step.specs.Numbered.{leaves, numbered};
+ghost use Rattle.door_write.specs.Outside.{outside};
+ghost use Rattle.door_write.specs.Numbered.{leaves, numbered};
+ghost use Rattle.door_step.specs.Door.{doorOf};
 use rules::State;
 
 // A platform reset; also what makes a record the fresh state.
@@ -26,7 +27,7 @@ pub extern "C" fn twin_write(s: &mut State, offset: u32, lanes: u32, value: u32)
     ensures { λ r. ⌜ leaves r (now (s .exit)) ≡ numbered (writeOf (now (s .entry)) offset lanes value) ⌝ }
 {
     let c = s.flags;
-    let w = door_step::put(&mut s.bytes, c, offset, lanes, value);
+    let w = door_write::put(&mut s.bytes, c, offset, lanes, value);
     s.flags = w.flags;
     w.number
 }
@@ -36,26 +37,32 @@ pub extern "C" fn twin_write(s: &mut State, offset: u32, lanes: u32, value: u32)
 pub extern "C" fn twin_write_by_value(s: &mut State, offset: u32, lanes: u32, value: u32) -> u32
     ensures { λ number. ⌜ leaves number (now (s .exit)) ≡ numbered (writeOf (now (s .entry)) offset lanes value) ⌝ }
 {
-    let w = door_step::write(*s, offset, lanes, value);
+    let w = door_write::write(*s, offset, lanes, value);
     *s = w.state;
     w.number
 }
 
-// A guest read.
+// A guest read. The record's bytes are lent on here too.
 #[no_mangle]
 pub extern "C" fn twin_read(s: &State, offset: u32, lanes: u32) -> u64
     ensures { λ r. ⌜ heard r ≡ heardOf (answer (readOf (now (s .entry)) offset lanes)) ⌝ }
 {
-    door_told::read(*s, offset, lanes)
+    let c = s.flags;
+    door_told::read(&s.bytes, c.busy, offset, lanes)
 }
 
-// The operation of number `op`.
+// The operation of number `op`. The record's bytes are lent on, with what stands beside them by value.
 #[no_mangle]
 pub extern "C" fn twin_do(s: &mut State, op: u32, a: u32, b: u32, c: u32) -> u64
     ensures { λ r. ⌜ outside (heard r) (now (s .exit)) ≡ doorOf (now (s .entry)) op a b c ⌝ }
 {
-    let d = door_step::operate(*s, op, a, b, c);
-    *s = d.state;
+    let latch = s.latch;
+    let flags = s.flags;
+    let window = s.window;
+    let d = door_step::operate(&mut s.bytes, latch, flags, window, op, a, b, c);
+    s.latch = d.latch;
+    s.flags = d.flags;
+    s.window = d.window;
     d.heard
 }
 

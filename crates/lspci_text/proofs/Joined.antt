@@ -1,17 +1,10 @@
--- Pieces of text put one behind the other, and one more of a row of them.
-use mathlib.Core.Path.{_≡_, refl, sym, ap, _∙_}
-use mathlib.Core.List.{List, [], _∷_, _++_, append-nil, append-assoc}
+-- One more of a row of pieces of text.
+use mathlib.Core.Path.{_≡_, sym, ap, _∙_}
+use mathlib.Core.List.{List, _++_, append-nil, append-assoc}
 use Prim.Native.Nat.{ℕ, zero, suc, _+_}
 use native.Mathlib.Numerals.{add-one}
 use native.Mathlib.Nat.{add-zero, add-suc, suc-add}
 use Rattle.lspci_text.specs.Dump.{joinFrom}
-
-module _ (x0 x1 x2 a b : List ℕ) (p : x1 ≡ x0 ++ a) (q : x2 ≡ x1 ++ b) where
-  pub in-two : x2 ≡ x0 ++ (a ++ b)
-  in-two = q ∙ rw p (append-assoc x0 a b)
-
-  pub in-four : (x3 x4 c d : List ℕ) → x3 ≡ x2 ++ c → x4 ≡ x3 ++ d → x4 ≡ x0 ++ (a ++ (b ++ (c ++ d)))
-  in-four x3 x4 c d r s = s ∙ rw (r, in-two) (simp append-assoc)
 
 join-last : (k : ℕ) (f : ℕ → List ℕ) (i : ℕ) → joinFrom (suc k) f i ≡ joinFrom k f i ++ f (i + k)
 unfolding joinFrom

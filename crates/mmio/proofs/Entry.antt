@@ -3,10 +3,11 @@ use mathlib.Core.Path.{_≡_}
 use Prim.Native.Nat.{ℕ}
 use Rattle.answer.specs.Refusals.{fine, ok, no, WINDOW-OFFSET}
 use Rattle.rules.specs.declared.State.{State}
-use Rattle.rules.specs.Access.{admit, done, refused}
-use Rattle.rules.specs.Plain.{laneValue}
+use Rattle.access.specs.Access.{admit}
+use Rattle.rules.specs.Access.{done, refused}
+use Rattle.plain.specs.Plain.{laneValue}
 use Rattle.rules.specs.Window.{badWindow, windowReadBit, windowReadOf, windowStepOf, windowWriteOf}
-use Rattle.rules.proofs.Access.{not-admitted, admitted}
+use Rattle.access.proofs.Access.{not-admitted, admitted}
 
 module _ (s : State) (o l : ℕ) where
   pub read-refused : (r : ℕ) → no r ≡ admit (badWindow o) WINDOW-OFFSET l no fine → no r ≡ windowReadOf s o l

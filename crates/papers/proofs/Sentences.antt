@@ -8,13 +8,16 @@ use Rattle.bits.specs.Bits.{numberOf}
 use Rattle.bits.specs.Choice.{_and_, _is_}
 use Rattle.bits.proofs.Below.{both-left, both-right}
 use Rattle.answer.proofs.Same.{sameReply, same-reply}
-use Rattle.map.specs.Map.{rows, rowAt, classOf, defaults}
+use Rattle.any_map.specs.Map.{rowAt, classAt, defaults}
+use Rattle.map.specs.Map.{rows}
 use Rattle.rules.specs.declared.State.{State}
-use Rattle.rules.specs.Access.{enabled, byteFor}
-use Rattle.rules.specs.Guest.{bitsTaken, takenBy, takes, store, clear, starts, storedBit, sizeAfter, bitAfter, ofField, touches, flagsAfter, writtenOf, stepOf, writeOf}
-use Rattle.rules.specs.Reset.{reset, endedBit, endedOf, endOf}
-use Rattle.rules.specs.Read.{pointer, shownBit, readBit, readValue, readOf}
-use Rattle.rules.specs.Host.{notHost, hostBit, hostStepOf, hostOf}
+use Rattle.access.specs.Access.{enabled, byteFor}
+use Rattle.any_device.specs.Device.{heldBack, storedBit, swept, writtenBit, touches, updatedBit, notHosted, endedBit, shownBit, placesOf}
+use Rattle.rules.specs.Device.{bitsTaken, takenBy, holdsBy, sweeps, pointer, spans}
+use Rattle.rules.specs.Guest.{starts, flagsAfter, writtenOf, stepOf, writeOf}
+use Rattle.rules.specs.Reset.{endedOf, endOf}
+use Rattle.rules.specs.Read.{readBit, readValue, readOf}
+use Rattle.rules.specs.Host.{hostStepOf, hostOf}
 use Rattle.rules.specs.Fresh.{freshOf}
 use Rattle.rules.specs.Ports.{notOurs, otherFunction, latchOf, portLanes, portValue, portReadOf, portWriteOf}
 use Rattle.rules.specs.Claims.{Claimed, unclaimed, claimed, Window, translation, aperture, io, base, apertureClaim, memoryClaimOf, ioClaimOf}
@@ -94,7 +97,7 @@ rows-hold (r ∷ rs) t = (steps-answered freshOf r (both-left (answered freshOf 
 -- ---- the claim
 
 computed : T (all sentences)
-unfolding all answered sentences numberOf rows rowAt classOf defaults enabled byteFor bitsTaken takenBy takes store clear starts storedBit sizeAfter bitAfter ofField touches flagsAfter writtenOf stepOf writeOf reset endedBit endedOf endOf pointer shownBit readBit readValue readOf notHost hostBit hostStepOf hostOf freshOf notOurs otherFunction latchOf portLanes portValue portReadOf portWriteOf base apertureClaim memoryClaimOf ioClaimOf windowBit windowReadBit windowReadOf requested acknowledged windowWritten windowStepOf windowWriteOf beyond masked completeOf recorded faulted faultOf cyclesOf mirrorMask mirrored mirrorUpdateOf windowHappens happens
+unfolding all answered sentences numberOf rows rowAt classAt defaults enabled byteFor bitsTaken takenBy holdsBy sweeps spans placesOf heldBack swept writtenBit updatedBit notHosted starts storedBit touches flagsAfter writtenOf stepOf writeOf endedBit endedOf endOf pointer shownBit readBit readValue readOf hostStepOf hostOf freshOf notOurs otherFunction latchOf portLanes portValue portReadOf portWriteOf base apertureClaim memoryClaimOf ioClaimOf windowBit windowReadBit windowReadOf requested acknowledged windowWritten windowStepOf windowWriteOf beyond masked completeOf recorded faulted faultOf cyclesOf mirrorMask mirrored mirrorUpdateOf windowHappens happens
 computed = tt
 
 pub sentences-hold : Each (Answered freshOf) sentences

@@ -15,9 +15,9 @@ use Rattle.bits.proofs.Laws.{number-ext, number-bits, bit-low, bit-number, bit-
 use Rattle.bits.proofs.Below.{below}
 use Rattle.bits.proofs.Places.{as-bytes, length-mapN, getD-mapN, length-put4, put4-at}
 use Rattle.answer.specs.Refusals.{Reply, ok, no, OFFSET}
-use Rattle.rules.specs.Access.{enabled, badOffset}
-use Rattle.rules.specs.Plain.{Mask, held, under, undriven, laneValue, readReply, storedOver, writtenBit, returnedBit}
-use Rattle.rules.proofs.Access.{admit-is, good-offset, enabled-at, byteFor-at, not-within}
+use Rattle.access.specs.Access.{enabled, badOffset}
+use Rattle.plain.specs.Plain.{Mask, held, under, undriven, laneValue, readReply, storedOver, writtenBit, returnedBit}
+use Rattle.access.proofs.Access.{admit-is, good-offset, enabled-at, byteFor-at, not-within}
 use Rattle.plain.specs.Bytes.{spreadOf, drivenOf, ifEnabled, laneOf, storedOf, returnedByte, returnedOf}
 
 -- ---- a read

@@ -5,7 +5,7 @@ use lib.ListN.{getD}
 use Rattle.bits.specs.Bits.{bit, blendK}
 use Rattle.bits.specs.Choice.{if_then_else_, _is_}
 use Rattle.bits.specs.Places.{mapN, put4Of}
-use Rattle.rules.specs.Plain.{laneValue}
+use Rattle.plain.specs.Plain.{laneValue}
 
 -- FF in each enabled lane
 unfoldable pub spreadOf : ℕ → ℕ

@@ -8,15 +8,16 @@ use lib.ListN.{length, getD}
 use Rattle.bits.specs.Bits.{bit}
 use Rattle.bits.specs.Choice.{pick}
 use Rattle.answer.specs.Refusals.{no, OFFSET}
-use Rattle.rules.specs.Access.{badOffset}
-use Rattle.rules.specs.Plain.{held, under, shownValue, writtenBit}
-use Rattle.rules.proofs.Access.{good-offset, admit-is}
+use Rattle.access.specs.Access.{badOffset}
+use Rattle.plain.specs.Plain.{held, under, shownValue, writtenBit}
+use Rattle.access.proofs.Access.{good-offset, admit-is}
 use Rattle.plain.specs.Bytes.{drivenOf}
 use Rattle.plain.proofs.Bridge.{joined-bit, driven-is, reply-is, stored-is, returned-is}
 use Rattle.host_updates.specs.Update.{Lent, lent, updateBytes}
 use Rattle.host_updates.proofs.Bridge.{update-by}
 use Rattle.plain.specs.Bytes.{returnedOf}
-use Rattle.plain_device.specs.Device.{made, readOf, writeOf, hostOf, functionResetOf}
+use Rattle.plain_device.specs.Device.{readOf, writeOf, hostOf, functionResetOf}
+use Rattle.plain.specs.Plain.{made}
 use Rattle.plain_device.specs.Bytes.{dwordOf, readBytes, storedBytes, writeBytes}
 
 module _ (m : List ℕ) (b : (i : ℕ) → getD m i 0 < 2 ^ 8) where

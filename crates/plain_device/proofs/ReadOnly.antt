@@ -1,9 +1,9 @@
 -- Demand 3's read-only clause for a plain device whose reset masks lie inside its guest masks.
-use mathlib.Core.Path.{_≡_, refl, sym, subst, _∙_}
+use mathlib.Core.Path.{_≡_, refl, sym, ap, _∙_}
 use mathlib.Core.List.{List}
 use mathlib.Core.Bool.{Bool, true, false, not}
 use Prim.Native.Nat.{ℕ, _<_}
-use lib.Dec.{T, eqb, ltb}
+use lib.Dec.{eqb, ltb}
 use lib.ListN.{getD}
 use Rattle.bits.specs.Bits.{bit, byteOf}
 use Rattle.bits.specs.Choice.{pick, both, either}
@@ -11,18 +11,18 @@ use Rattle.bits.proofs.Laws.{bit-number, bit<2}
 use Rattle.bits.proofs.Below.{both-off, pick-has}
 use Rattle.bits.proofs.Places.{getD-bytes}
 use Rattle.answer.specs.Refusals.{fine, no, OFFSET, NOT-HOST}
-use Rattle.rules.proofs.Access.{admit-has}
-use Rattle.rules.specs.Access.{enabled, byteFor, badOffset}
-use Rattle.rules.specs.Plain.{Bits, held, under, outside, writtenBit, updatedBit, returnedBit}
-use Rattle.rules.specs.Past.{Given, nothing, given, orHeld, since}
-use Rattle.rules.proofs.Past.{history, none-given}
-use Rattle.rules.proofs.Plain.{no-gift}
+use Rattle.access.proofs.Access.{admit-has}
+use Rattle.access.specs.Access.{enabled, byteFor, badOffset}
+use Rattle.plain.specs.Plain.{Bits, made, held, under, outside, writtenBit, updatedBit, returnedBit}
+use Rattle.past.specs.Past.{Given, nothing, given, orHeld, ran}
+use Rattle.past.proofs.History.{history}
+use Rattle.plain.proofs.Plain.{no-gift}
 use Rattle.host_updates.specs.Update.{Lent, lent}
 use Rattle.plain_device.specs.declared.Tables.{Tables}
-use Rattle.plain_device.specs.Device.{made, writeOf, hostOf, functionResetOf, happens}
+use Rattle.plain_device.specs.Device.{writeOf, hostOf, functionResetOf, happens}
 use Rattle.plain_device.specs.declared.Event.{Event}
 use Rattle.plain_device.specs.declared.Event.the-variants.{Read, Write, HostUpdate, FunctionReset, PlatformReset}
-use Rattle.plain_device.specs.ReadOnly.{isReset, next, run, gives, Inside, Read-only}
+use Rattle.plain_device.specs.ReadOnly.{next, run, gives, lastUpdate, Inside, Read-only}
 
 module _ (t : Tables) (inside : Inside t) (i j : ℕ) (h : i < 256) (k : j < 8) (fixed : under (t .guests) i j ≡ false) where
   abbrev B : List ℕ → ℕ
@@ -56,33 +56,30 @@ module _ (t : Tables) (inside : Inside t) (i j : ℕ) (h : i < 256) (k : j < 8) 
       go false true = refl
       go false false = made-bit (updatedBit (held m) o mask v) (λ i j. chosen<2 (both (eqb i o) (eqb (bit mask j) 1)) v (getD m i 0) j j) ∙ chosen (both (eqb i o) (eqb (bit mask j) 1))
 
-  event-bit : (e : Event) (m : List ℕ) → isReset e ≡ false → Unit {0} → B (next t e m) ≡ orHeld (gives t i j e) (B m)
+  event-bit : (e : Event) (m : List ℕ) → Unit {0} → B (next t e m) ≡ orHeld (gives t i j e) (B m)
   unfolding happens gives
-  event-bit (Read o l) m n z = refl
-  event-bit (Write o l v) m n z = write-bit o l v m
-  event-bit (HostUpdate o mask v) m n z = host-bit o mask v m
-  event-bit FunctionReset m n z = reset-bit m
-  event-bit PlatformReset m n z = absurd (subst T n tt)
+  event-bit (Read o l) m z = refl
+  event-bit (Write o l v) m z = write-bit o l v m
+  event-bit (HostUpdate o mask v) m z = host-bit o mask v m
+  event-bit FunctionReset m z = reset-bit m
+  event-bit PlatformReset m z = refl
 
-forgets : (t : Tables) (e : Event) (m : List ℕ) → isReset e ≡ true → next t e m ≡ t .defaults
-unfolding happens
-forgets t (Read o l) m e = absurd (subst T (sym e) tt)
-forgets t (Write o l v) m e = absurd (subst T (sym e) tt)
-forgets t (HostUpdate o k v) m e = absurd (subst T (sym e) tt)
-forgets t FunctionReset m e = absurd (subst T (sym e) tt)
-forgets t PlatformReset m e = refl
+-- the one law of history, where the events tell nothing
+module _ (t : Tables) (i j : ℕ) {S : Type 0} (step : Event → S → S) (B : S → ℕ) where
+  by-law : ((e : Event) (s : S) → Unit {0} → B (step e s) ≡ orHeld (gives t i j e) (B s)) → (es : List Event) (s : S) → B (ran step s es) ≡ orHeld (lastUpdate t i j es) (B s)
+  by-law event es s = history step (λ (e : Event) (x : Unit {0}). x) (λ s. tt) (λ e s. refl) B (λ (x : Unit {0}). gives t i j) (λ (x : Unit {0}). Unit {0}) (λ e x g f. tt) event es s tt
 
 pub read-only : (t : Tables) → Inside t → Read-only t
-read-only t inside es i j h k fixed = history isReset (next t) (t .defaults) (forgets t) (λ (m : List ℕ). held m i j) (λ (m : List ℕ). Unit {0}) (gives t i j) (event-bit t inside i j h k fixed) (λ e m n z. tt) tt es
+read-only t inside es i j h k fixed = by-law t i j (next t) (λ (m : List ℕ). held m i j) (event-bit t inside i j h k fixed) es (t .defaults)
 
--- a bit that neither guest nor host has holds its default
+-- a bit that neither guest nor host has holds its default: it is given nothing else
 pub default-holds : (t : Tables) → Inside t → (es : List Event) (i j : ℕ) → i < 256 → j < 8 → under (t .guests) i j ≡ false → under (t .hosts) i j ≡ false → held (run t es) i j ≡ held (t .defaults) i j
-unfolding gives
-default-holds t inside es i j h k fixed own = read-only t inside es i j h k fixed ∙ rw (none-given (gives t i j) ungiven (since isReset es))
+unfolding gives ran
+default-holds t inside es i j h k fixed own = read-only t inside es i j h k fixed ∙ sym (by-law t i j (λ (e : Event) (x : Unit {0}). x) (λ (x : Unit {0}). held (t .defaults) i j) ungiven es tt)
   where
-    ungiven : (e : Event) → gives t i j e ≡ nothing
-    ungiven (Read o l) = refl
-    ungiven (Write o l v) = refl
-    ungiven (HostUpdate o m v) = no-gift (under (t .hosts)) i j k own o m v
-    ungiven FunctionReset = refl
-    ungiven PlatformReset = refl
+    ungiven : (e : Event) (x y : Unit {0}) → held (t .defaults) i j ≡ orHeld (gives t i j e) (held (t .defaults) i j)
+    ungiven (Read o l) x y = refl
+    ungiven (Write o l v) x y = refl
+    ungiven (HostUpdate o m v) x y = ap (λ (g : Given). orHeld g (held (t .defaults) i j)) (sym (no-gift (under (t .hosts)) i j k own o m v))
+    ungiven FunctionReset x y = refl
+    ungiven PlatformReset x y = refl

@@ -4,8 +4,8 @@ use mathlib.Core.List.{List, [], _∷_}
 use Prim.Native.Nat.{ℕ}
 use Rattle.bits.specs.Bits.{numberOf}
 use Rattle.bits.specs.Places.{from}
-use Rattle.rules.specs.Access.{enabled, byteFor}
-use Rattle.rules.specs.Past.{ran}
+use Rattle.access.specs.Access.{enabled, byteFor}
+use Rattle.past.specs.Past.{ran}
 use Rattle.plain_device.specs.declared.Tables.{Tables}
 use Rattle.plain_device.specs.Device.{writeOf, hostOf, functionResetOf, happens}
 use Rattle.plain_device.specs.declared.Event.{Event}

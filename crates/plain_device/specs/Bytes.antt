@@ -6,8 +6,8 @@ use Rattle.bits.specs.Bits.{joined}
 use Rattle.answer.specs.Refusals.{Reply, fine, no, OFFSET}
 use Rattle.answer.specs.Said.{says}
 use Rattle.answer.specs.declared.Answer.{Answer}
-use Rattle.rules.specs.Access.{badOffset, admit}
-use Rattle.rules.specs.Plain.{readReply}
+use Rattle.access.specs.Access.{badOffset, admit}
+use Rattle.plain.specs.Plain.{readReply}
 use Rattle.plain.specs.Bytes.{drivenOf, storedOf}
 use Rattle.host_updates.specs.Update.{Lent, lent}
 

@@ -3,22 +3,16 @@
 use mathlib.Core.List.{List}
 use Prim.Native.Nat.{ℕ}
 use lib.ListN.{getD}
-use Rattle.bits.specs.Bits.{byteOf}
 use Rattle.bits.specs.Choice.{if_then_else_, _<?_}
-use Rattle.bits.specs.Places.{bytes}
 use Rattle.answer.specs.Refusals.{Reply, fine, no, OFFSET, NOT-HOST}
 use Rattle.answer.specs.Said.{says}
-use Rattle.rules.specs.Access.{badOffset, admit}
-use Rattle.rules.specs.Plain.{Bits, held, under, shownValue, readReply, writtenBit, outside, updatedBit, returnedBit}
+use Rattle.access.specs.Access.{badOffset, admit}
+use Rattle.plain.specs.Plain.{made, held, under, shownValue, readReply, writtenBit, outside, updatedBit, returnedBit}
 use Rattle.host_updates.specs.Update.{Lent, lent}
 use Rattle.plain_device.specs.declared.Tables.{Tables}
 use Rattle.plain_device.specs.declared.Event.{Event}
 use Rattle.plain_device.specs.declared.Event.the-variants.{Read, Write, HostUpdate, FunctionReset, PlatformReset}
 use Rattle.plain_device.specs.declared.Stepped.{Stepped}
-
--- the 256 bytes that bits make
-abbrev pub made : Bits → List ℕ
-made b = bytes (λ (i : ℕ). byteOf (b i))
 
 -- ---- what is said, and the bytes afterwards
 

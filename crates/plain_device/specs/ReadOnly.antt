@@ -1,21 +1,14 @@
 -- Demand 3's read-only clause for a plain device: over every sequence of guest accesses, host updates, function resets and platform resets.
 use mathlib.Core.Path.{_≡_}
 use mathlib.Core.List.{List}
-use mathlib.Core.Bool.{Bool, true, false}
+use mathlib.Core.Bool.{false}
 use Prim.Native.Nat.{ℕ, _<_}
-use Rattle.rules.specs.Plain.{under, held, updateGives}
-use Rattle.rules.specs.Past.{Given, nothing, orHeld, ran, since, lastGiven}
+use Rattle.plain.specs.Plain.{under, held, updateGives}
+use Rattle.past.specs.Past.{Given, nothing, given, orHeld, ran, lastGiven}
 use Rattle.plain_device.specs.declared.Tables.{Tables}
 use Rattle.plain_device.specs.declared.Event.{Event}
 use Rattle.plain_device.specs.declared.Event.the-variants.{Read, Write, HostUpdate, FunctionReset, PlatformReset}
 use Rattle.plain_device.specs.Device.{happens}
-
-abbrev pub isReset : Event → Bool
-isReset (Read o l) = false
-isReset (Write o l v) = false
-isReset (HostUpdate o k v) = false
-isReset FunctionReset = false
-isReset PlatformReset = true
 
 module _ (t : Tables) where
   -- the bytes that an event leaves
@@ -26,17 +19,17 @@ module _ (t : Tables) where
   abbrev pub run : List Event → List ℕ
   run es = ran next (t .defaults) es
 
-  -- what an event gives bit j of byte i, if it is an accepted host update that masks it
+  -- what an event gives bit j of byte i: an accepted host update that masks it its bit, a platform reset the default
   unfoldable pub gives : ℕ → ℕ → Event → Given
   gives i j (Read o l) = nothing
   gives i j (Write o l v) = nothing
   gives i j (HostUpdate o k v) = updateGives (under (t .hosts)) o k v i j
   gives i j FunctionReset = nothing
-  gives i j PlatformReset = nothing
+  gives i j PlatformReset = given (held (t .defaults) i j)
 
-  -- the last of them since the last platform reset, or the start
+  -- the last that was given
   abbrev pub lastUpdate : ℕ → ℕ → List Event → Given
-  lastUpdate i j es = lastGiven (gives i j) (since isReset es)
+  lastUpdate i j es = lastGiven (λ (e : Event) (x : Unit {0}). x) (λ (x : Unit {0}). gives i j) tt es
 
   -- no reset mask has a bit outside the guest mask: what a sheet is checked for
   abbrev pub Inside : Type 0

@@ -4,8 +4,8 @@ ghost use Prim.Native.Nat.{_+_, _<_};
 ghost use Rattle.answer.specs.Said.{says};
 ghost use Rattle.plain_device.specs.Device.{readOf, writeOf, hostOf, functionResetOf, stepped};
 ghost use Rattle.plain_device.specs.Bytes.{dwordOf, readBytes, storedBytes, writeBytes, answered};
+use access::Admitted;
 use answer::Answer;
-use rules::Admitted;
 
 // What the device holds. Every pattern of bytes is a state.
 pub struct Registers {

@@ -1,7 +1,7 @@
 // The port pair CF8h and CFCh, over a state by value.
 ghost use mathlib.Core.Path.{_≡_};
 ghost use Prim.Native.Nat.{_+_, _%_, _^_, _<_, _≤_};
-ghost use Rattle.rules.specs.Ports.{badWidth, atLatch, atData, notOurs, otherFunction, latchOf, portLanes, placed, portReadOf, portWriteOf};
+ghost use Rattle.rules.specs.Ports.{badWidth, atLatch, atData, notOurs, otherFunction, here, latchOf, portLanes, placed, portReadOf, portWriteOf};
 ghost use Rattle.answer.specs.Said.{says};
 ghost use Rattle.rules.specs.Answers.{stepped};
 ghost use Rattle.ports.specs.Part.{Width, partOf};
@@ -70,7 +70,7 @@ fn not_ours(latch: u32, port: u16, width: u32) -> bool
 }
 
 fn other_function(latch: u32) -> bool
-    ensures { λ r. ⌜ r ≡ otherFunction latch ⌝ }
+    ensures { λ r. ⌜ r ≡ otherFunction here latch ⌝ }
 {
     if latch / 65536 % 256 == 0 {
         if latch / 2048 % 32 == 2 {

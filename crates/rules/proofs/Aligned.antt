@@ -12,15 +12,17 @@ use Rattle.bits.specs.Choice.{pick, both, either, allBelow}
 use Rattle.bits.proofs.Laws.{low-zero}
 use Rattle.bits.proofs.Below.{below, both-left, both-right, is-false}
 use Rattle.map.specs.Registers.{GMADR, MSAC}
-use Rattle.map.specs.Class.{aperture, stores, isHost}
-use Rattle.map.specs.Map.{rows, rowAt, classOf, defaults, defaultAt}
+use Rattle.any_device.specs.Class.{special, device, stores, byHost, hasF, isHosted}
+use Rattle.map.specs.Class.{taken}
+use Rattle.any_map.specs.Map.{rowAt, classAt, defaults}
+use Rattle.map.specs.Map.{rows, classOf, defaultAt}
 use Rattle.rules.specs.declared.State.{State}
 use Rattle.rules.specs.Access.{byte}
-use Rattle.rules.specs.Guest.{sizeOf, leastExponent, bitsTaken, exponentOf, takenBy}
+use Rattle.rules.specs.Device.{sizeOf, leastExponent, bitsTaken, exponentOf, takenBy}
 use Rattle.rules.specs.Claims.{baseBit, base, apertureBase}
 use Rattle.rules.specs.declared.Event.{Event}
 use Rattle.rules.specs.Events.{run}
-use Rattle.rules.proofs.Fixed.{default-holds}
+use Rattle.rules.proofs.Histories.{default-holds}
 use Rattle.rules.proofs.Size.{taken-zero}
 
 -- bit b of GMADR
@@ -30,13 +32,13 @@ at b = GMADR + b / 8
 -- ---- bits 26:4 are read-only, 0
 
 abbrev fixed-at : ℕ → Bool
-fixed-at b = both (not (stores (classOf (at b) (b % 8)))) (both (not (isHost (classOf (at b) (b % 8)))) (eqb (bit (defaultAt (at b)) (b % 8)) 0))
+fixed-at b = both (not (stores (classOf (at b) (b % 8)))) (both (not (isHosted (classOf (at b) (b % 8) .host))) (eqb (bit (defaultAt (at b)) (b % 8)) 0))
 
 low-at : ℕ → Bool
 low-at b = either (ltb b 4) (fixed-at b)
 
 all-low : T (allBelow 27 low-at)
-unfolding low-at rows rowAt classOf defaults
+unfolding low-at rows rowAt classAt defaults
 all-low = tt
 
 -- ---- how many bits a code takes
@@ -50,14 +52,17 @@ taken≤2 code = go (eqb code 3) (eqb code 1)
     go false true = omega arith
     go false false = omega arith
 
--- bits 27 and 28
-aperture-27 : (classOf (at 27) 3 ≡ aperture 27) × (bit (defaultAt (at 27)) 3 ≡ 0)
-unfolding rows rowAt classOf defaults
-aperture-27 = (refl, refl)
+-- bits 27 and 28: a size code takes them, a function reset returns them, the host has no say, and their default is 0
+abbrev Taken : ℕ → Type 0
+Taken b = (classOf (at b) (b % 8) .stored ≡ special (taken b)) × (hasF (classOf (at b) (b % 8)) ≡ true) × (byHost device (classOf (at b) (b % 8)) ≡ false) × (bit (defaultAt (at b)) (b % 8) ≡ 0)
 
-aperture-28 : (classOf (at 28) 4 ≡ aperture 28) × (bit (defaultAt (at 28)) 4 ≡ 0)
-unfolding rows rowAt classOf defaults
-aperture-28 = (refl, refl)
+aperture-27 : Taken 27
+unfolding rows rowAt classAt defaults
+aperture-27 = (refl, refl, refl, refl)
+
+aperture-28 : Taken 28
+unfolding rows rowAt classAt defaults
+aperture-28 = (refl, refl, refl, refl)
 
 module _ (es : List Event) where
   abbrev s : State
@@ -74,19 +79,19 @@ module _ (es : List Event) where
       go true t = refl
       go false t =
           let u = both-right (not (stores (classOf (at b) (b % 8)))) _ t in
-          default-holds (at b) (b % 8) (omega arith) (omega arith) (is-false _ (both-left (not (stores (classOf (at b) (b % 8)))) _ t)) (is-false _ (both-left (not (isHost (classOf (at b) (b % 8)))) _ u)) es
-          ∙ eqb→eq _ _ (both-right (not (isHost (classOf (at b) (b % 8)))) _ u)
+          default-holds (at b) (b % 8) (omega arith) (omega arith) (is-false _ (both-left (not (stores (classOf (at b) (b % 8)))) _ t)) es (both-left (not (isHosted (classOf (at b) (b % 8) .host))) _ u)
+          ∙ eqb→eq _ _ (both-right (not (isHosted (classOf (at b) (b % 8) .host))) _ u)
 
   -- the bits that the code takes
-  is-taken : (b : ℕ) → 27 ≤ b → b < exponentOf code → takenBy code (aperture b) ≡ true
+  is-taken : (b : ℕ) → 27 ≤ b → b < exponentOf code → takenBy code b ≡ true
   unfolding takenBy
   is-taken b l u = rw (le-leb leastExponent b l, lt-ltb b (exponentOf code) u)
 
   taken-bit : (b : ℕ) → 27 ≤ b → b < exponentOf code → baseBit s GMADR 4 b ≡ 0
   taken-bit b l u =
       elim (ℕ-discrete b 27) [
-        | yes e ↦ rw e (taken-zero (at 27) 3 27 (omega arith) (omega arith) (aperture-27 .0) (aperture-27 .1) es (is-taken 27 (omega arith) (omega arith)))
-        | no n ↦ (let e : b ≡ 28 = omega (arith, taken≤2 code) in rw e (taken-zero (at 28) 4 28 (omega arith) (omega arith) (aperture-28 .0) (aperture-28 .1) es (is-taken 28 (omega arith) (omega arith))))
+        | yes e ↦ rw e (taken-zero (at 27) 3 27 (omega arith) (omega arith) (aperture-27 .0) (aperture-27 .1) (aperture-27 .2) (aperture-27 .3) es (is-taken 27 (omega arith) (omega arith)))
+        | no n ↦ (let e : b ≡ 28 = omega (arith, taken≤2 code) in rw e (taken-zero (at 28) 4 28 (omega arith) (omega arith) (aperture-28 .0) (aperture-28 .1) (aperture-28 .2) (aperture-28 .3) es (is-taken 28 (omega arith) (omega arith))))
       ]
 
   below-size : (b : ℕ) → b < exponentOf code → baseBit s GMADR 4 b ≡ 0

@@ -8,11 +8,12 @@ use Rattle.bits.proofs.Below.{pick-has}
 use Rattle.answer.specs.Refusals.{WIDTH, NOT-OURS, OTHER-FUNCTION}
 use Rattle.map.specs.Registers.{PCICMD2}
 use Rattle.rules.specs.declared.State.{State}
-use Rattle.rules.specs.Access.{byte, badOffset, badLanes, done, refused}
+use Rattle.rules.specs.Access.{byte, done, refused}
+use Rattle.access.specs.Access.{badOffset, badLanes}
 use Rattle.rules.specs.Guest.{stepOf}
 use Rattle.rules.specs.Read.{readBit, readValue, readOf}
 use Rattle.rules.specs.Reset.{endOf}
-use Rattle.rules.specs.Ports.{badWidth, notOurs, otherFunction, portValue, portWriteOf}
+use Rattle.rules.specs.Ports.{badWidth, notOurs, otherFunction, here, portValue, portWriteOf}
 use Rattle.rules.specs.Claims.{Claimed, unclaimed, memoryClaimOf, ioClaimOf}
 use Rattle.rules.specs.Demand3.{Ones, Dropped, Unclaimed, Unended}
 use Rattle.rules.proofs.EachBit.{write-state}
@@ -25,7 +26,7 @@ pub drops-writes : Dropped
 unfolding stepOf portWriteOf
 drops-writes s e = (
   λ o l v. rw (write-state s o l v, e) (pick-has (λ (t : State). t ≡ s) (not (either (badOffset o) (badLanes l))) s s refl refl),
-  λ p w v n. rw (e, n) (go (badWidth w) (notOurs (s .latch) p w) (otherFunction (s .latch))),
+  λ p w v n. rw (e, n) (go (badWidth w) (notOurs (s .latch) p w) (otherFunction here (s .latch))),
 )
   where
     go : (a b c : Bool) → pick a (refused WIDTH s) (pick b (refused NOT-OURS s) (pick c (refused OTHER-FUNCTION s) (done s))) .state ≡ s

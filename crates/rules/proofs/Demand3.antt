@@ -12,29 +12,33 @@ use Rattle.bits.proofs.Laws.{number-ext}
 use Rattle.bits.proofs.Below.{below, both-left, both-right, is-true, is-false}
 use Rattle.answer.specs.Refusals.{number, value, ok, no}
 use Rattle.map.specs.Registers.{CAPPOINT, CAPL, MSAC, SVID2, SID2, AFCTL, SWSCI}
-use Rattle.map.specs.Class.{Field, svid2, sid2, swsci15, once, computed, stores, isHost, sameClass}
-use Rattle.map.specs.Map.{rows, rowAt, classOf, defaults, defaultAt}
-use Rattle.map.proofs.Classes.{same-once, not-computed}
+use Rattle.any_device.specs.Class.{isHosted, stores}
+use Rattle.any_device.specs.Device as D
+use Rattle.map.specs.Class.{Field, svid2, sid2, swsci15}
+use Rattle.any_map.specs.Map.{rowAt, classAt, defaults}
+use Rattle.map.specs.Map.{rows, classOf, defaultAt}
 use Rattle.rules.specs.declared.State.{State}
-use Rattle.rules.specs.Access.{byte, busy, badOffset, badLanes, Outcome, done, refused}
+use Rattle.rules.specs.Access.{byte, busy, Outcome, done, refused}
+use Rattle.access.specs.Access.{badOffset, badLanes}
 use Rattle.rules.specs.Guest.{writtenOf, stepOf, writeOf}
-use Rattle.rules.specs.Read.{pointer, shownBit, readBit, readValue, readOf}
+use Rattle.rules.specs.Device.{pointer}
+use Rattle.rules.specs.Read.{shownBit, readBit, readValue, readOf}
 use Rattle.rules.specs.Host.{notHost, hostStepOf, hostOf}
-use Rattle.rules.specs.Reset.{reset, endedBit, endedOf, endOf}
-use Rattle.rules.specs.Ports.{badWidth, notOurs, atLatch, otherFunction, latched, portLanes, portValue, portReadOf, portWriteOf}
+use Rattle.rules.specs.Reset.{endedBit, endedOf, endOf}
+use Rattle.rules.specs.Ports.{badWidth, notOurs, atLatch, otherFunction, here, latched, portLanes, portValue, portReadOf, portWriteOf}
 use Rattle.rules.specs.Window.{badWindow, windowReadOf, windowWriteOf, beyond, requestMask, completeOf, faultMask, faultOf, mirrorMask, mirrorUpdateOf}
 use Rattle.rules.specs.declared.WindowEvent.the-variants.{WindowRead, WindowWrite, Complete, Fault, AddCycles, MirrorUpdate}
 use Rattle.rules.specs.declared.Event.{Event}
 use Rattle.rules.specs.declared.Event.the-variants.{Read, Write, PortRead, PortWrite, HostUpdate, EndSignal, PlatformReset, InWindow}
 use Rattle.rules.specs.Events.{windowHappens, looked, happens, run}
 use Rattle.rules.specs.Demand3.{Write-once, Read-only, Computed, codeOf, Aperture, Refused, Reads, Busy, Started, Ended, Latch, Unlaned, Power, Poll, lockedWord, Read-back-2C, Read-back-2E, Read-back-E8}
-use Rattle.rules.specs.History.{Seen, seen, firstWrite, overDefault}
+use Rattle.rules.specs.History.{Seen, seen, bitOf, firstWrite, overDefault}
 use Rattle.rules.proofs.Lanes.{read-part}
 use Rattle.rules.proofs.EachBit.{bit-after, bit-ended, write-state, each-bit-read}
-use Rattle.rules.proofs.Once.{once-history}
-use Rattle.rules.proofs.Fixed.{fixed-history, default-holds}
-use Rattle.rules.proofs.Access.{good-offset, not-within}
-use Rattle.rules.proofs.Kept.{left, start-kept}
+use Rattle.rules.proofs.Histories.{once-history, fixed-history, default-holds}
+use Rattle.access.proofs.Access.{good-offset, not-within}
+use Rattle.rules.proofs.Stored.{left}
+use Rattle.rules.proofs.Kept.{start-kept}
 use Rattle.rules.proofs.NoLanes.{no-lanes-bit, no-lanes-flags}
 use Rattle.rules.proofs.Runs.{seen-run}
 use Rattle.rules.proofs.Numbers.{field-bit, size-named}
@@ -48,7 +52,7 @@ pub read-only : Read-only
 read-only es i j h k fixed = fixed-history i j h k fixed es
 
 pointer-shown : (s : State) (b : Bool) → eqb (bit (byte s CAPL) 0) 1 ≡ b → byteOf (shownBit s CAPPOINT) ≡ pick b 0xD0 0x90
-unfolding shownBit pointer numberOf rows rowAt classOf
+unfolding D.shownBit pointer numberOf rows rowAt classAt
 pointer-shown s true e = rw e
 pointer-shown s false e = rw e
 
@@ -100,8 +104,8 @@ pub refused-changes-nothing : Refused
 unfolding happens readOf writeOf hostOf portReadOf portWriteOf windowHappens windowReadOf windowWriteOf completeOf faultOf mirrorUpdateOf
 refused-changes-nothing (Read o l) s r = looks-two (badOffset o) (badLanes l) _ _ _ s r
 refused-changes-nothing (Write o l v) s r = two (badOffset o) (badLanes l) _ _ s (stepOf s o l v) r
-refused-changes-nothing (PortRead p w) s r = looks-three (badWidth w) (notOurs (s .latch) p w) (atLatch p w) (otherFunction (s .latch)) _ _ _ _ _ s r
-refused-changes-nothing (PortWrite p w v) s r = three (badWidth w) (notOurs (s .latch) p w) (atLatch p w) (otherFunction (s .latch)) _ _ _ s (latched s v) _ r
+refused-changes-nothing (PortRead p w) s r = looks-three (badWidth w) (notOurs (s .latch) p w) (atLatch p w) (otherFunction here (s .latch)) _ _ _ _ _ s r
+refused-changes-nothing (PortWrite p w v) s r = three (badWidth w) (notOurs (s .latch) p w) (atLatch p w) (otherFunction here (s .latch)) _ _ _ s (latched s v) _ r
 refused-changes-nothing (HostUpdate o m v) s r = two (ltb 255 o) (notHost o m) _ _ s (hostStepOf s o m v) r
 refused-changes-nothing EndSignal s r = absurd (r refl)
 refused-changes-nothing PlatformReset s r = absurd (r refl)
@@ -131,7 +135,7 @@ start-changes-nothing s o l v i j good t h k = rw (write-state s o l v) (go (not
     go false b = refl
 
 pub end-is : Ended
-unfolding endOf endedOf endedBit reset
+unfolding endOf endedOf D.endedBit
 end-is s i j e h k = rw e (refl, refl, bit-ended s i j h k)
 
 -- ---- what stays
@@ -159,24 +163,26 @@ power-alone s l v i j h k n = rw (write-state s 0xD4 l v) (go (not (either (badO
 
 -- ---- what a guest reads back
 
--- in the word at a place each bit is the field's
+-- in the word at a place each bit is the field's, and is shown as it is held
 abbrev locked : Field → ℕ → Bool
-locked f at = allBelow 16 (λ (n : ℕ). sameClass (classOf (at + n / 8) (n % 8)) (once f))
+locked f at = allBelow 16 (λ (n : ℕ). both (bitOf f (at + n / 8) (n % 8)) (not (classOf (at + n / 8) (n % 8) .computed)))
 
 word-reads : (f : Field) (at : ℕ) → T (locked f at) → at + 1 < 256 → (es : List Event) → busy (run es) ≡ false → numberOf 16 (λ (n : ℕ). readBit (run es) (at + n / 8) (n % 8)) ≡ lockedWord f at es
-unfolding readBit shownBit
+unfolding readBit D.shownBit
 word-reads f at t h es q =
     number-ext 16 (λ (n : ℕ). readBit (run es) (at + n / 8) (n % 8)) (λ (n : ℕ). overDefault (firstWrite f es) (at + n / 8) (n % 8))
     (λ n k.
-    let is : classOf (at + n / 8) (n % 8) ≡ once f = same-once (classOf (at + n / 8) (n % 8)) f (is-true _ (below 16 (λ (n : ℕ). sameClass (classOf (at + n / 8) (n % 8)) (once f)) t n k)) in
-    rw (q, is, not-computed f) (once-history f (at + n / 8) (n % 8) (omega arith) (omega arith) is es))
+    let u = below 16 (λ (n : ℕ). both (bitOf f (at + n / 8) (n % 8)) (not (classOf (at + n / 8) (n % 8) .computed))) t n k in
+    let is : bitOf f (at + n / 8) (n % 8) ≡ true = is-true _ (both-left (bitOf f (at + n / 8) (n % 8)) _ u) in
+    let shown : classOf (at + n / 8) (n % 8) .computed ≡ false = is-false _ (both-right (bitOf f (at + n / 8) (n % 8)) _ u) in
+    rw (q, shown) (once-history f (at + n / 8) (n % 8) (omega arith) (omega arith) (field-bit f (at + n / 8) (n % 8) (omega arith) (omega arith) is) es))
 
 svid2-locked : T (locked svid2 SVID2)
-unfolding rows rowAt classOf
+unfolding rows rowAt classAt
 svid2-locked = tt
 
 sid2-locked : T (locked sid2 SID2)
-unfolding rows rowAt classOf
+unfolding rows rowAt classAt
 sid2-locked = tt
 
 -- lanes 3 are the low word, lanes 12 the high
@@ -190,21 +196,21 @@ read-back-2E es q = ap ok (read-part (run es) SVID2 2 2 0 refl ∙ omega (arith,
 
 -- AFCTL has no bit that a guest write stores or the host has, and default 0
 afctl-at : ℕ → Bool
-afctl-at j = both (not (stores (classOf AFCTL j))) (both (not (isHost (classOf AFCTL j))) (both (not (sameClass (classOf AFCTL j) computed)) (eqb (bit (defaultAt AFCTL) j) 0)))
+afctl-at j = both (not (stores (classOf AFCTL j))) (both (not (isHosted (classOf AFCTL j .host))) (both (not (classOf AFCTL j .computed)) (eqb (bit (defaultAt AFCTL) j) 0)))
 
 all-afctl : T (allBelow 8 afctl-at)
-unfolding afctl-at rows rowAt classOf defaults
+unfolding afctl-at rows rowAt classAt defaults
 all-afctl = tt
 
 afctl-shown : (es : List Event) (j : ℕ) → j < 8 → shownBit (run es) AFCTL j ≡ 0
-unfolding shownBit afctl-at
+unfolding D.shownBit afctl-at
 afctl-shown es j h =
     let t = below 8 afctl-at all-afctl j h in
     let u = both-right (not (stores (classOf AFCTL j))) _ t in
-    let w = both-right (not (isHost (classOf AFCTL j))) _ u in
-    let own = is-false _ (both-left (not (isHost (classOf AFCTL j))) _ u) in
-    let plain : sameClass (classOf AFCTL j) computed ≡ false = is-false _ (both-left (not (sameClass (classOf AFCTL j) computed)) _ w) in
-    rw plain (default-holds AFCTL j (omega arith) h (is-false _ (both-left (not (stores (classOf AFCTL j))) _ t)) own es ∙ eqb→eq _ _ (both-right (not (sameClass (classOf AFCTL j) computed)) _ w))
+    let w = both-right (not (isHosted (classOf AFCTL j .host))) _ u in
+    let own = both-left (not (isHosted (classOf AFCTL j .host))) _ u in
+    let plain : classOf AFCTL j .computed ≡ false = is-false _ (both-left (not (classOf AFCTL j .computed)) _ w) in
+    rw plain (default-holds AFCTL j (omega arith) h (is-false _ (both-left (not (stores (classOf AFCTL j))) _ t)) es own ∙ eqb→eq _ _ (both-right (not (classOf AFCTL j .computed)) _ w))
 
 pub poll : Poll
 unfolding readOf readValue readBit numberOf
@@ -214,10 +220,10 @@ poll es = ap ok (go (seen es .busy) (busy-is es))
     go true e = rw e
     go false e = rw (e, afctl-shown es 0 (omega arith), afctl-shown es 1 (omega arith), afctl-shown es 2 (omega arith), afctl-shown es 3 (omega arith), afctl-shown es 4 (omega arith), afctl-shown es 5 (omega arith), afctl-shown es 6 (omega arith), afctl-shown es 7 (omega arith))
 
-swsci-locked : classOf (SWSCI + 1) 7 ≡ once swsci15
-unfolding rows rowAt classOf
-swsci-locked = refl
+swsci-shown : classOf (SWSCI + 1) 7 .computed ≡ false
+unfolding rows rowAt classAt
+swsci-shown = refl
 
 pub read-back-E8 : Read-back-E8
-unfolding readOf readBit shownBit
-read-back-E8 es q = (readValue (run es) SWSCI 3, (refl, each-bit-read (run es) SWSCI 3 15 (omega arith) ∙ rw (busy-is es ∙ q, swsci-locked) (once-history swsci15 (SWSCI + 1) 7 (omega arith) (omega arith) swsci-locked es)))
+unfolding readOf readBit D.shownBit
+read-back-E8 es q = (readValue (run es) SWSCI 3, (refl, each-bit-read (run es) SWSCI 3 15 (omega arith) ∙ rw (busy-is es ∙ q, swsci-shown) (once-history swsci15 (SWSCI + 1) 7 (omega arith) (omega arith) (field-bit swsci15 (SWSCI + 1) 7 (omega arith) (omega arith) refl) es)))

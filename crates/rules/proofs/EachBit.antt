@@ -1,48 +1,40 @@
 -- For every state, access and bit: what the bit holds afterwards, and what a read gives of it.
-use mathlib.Core.Path.{_≡_, refl, ap, _∙_}
+use mathlib.Core.Path.{_≡_, refl}
 use mathlib.Core.Bool.{Bool, true, false, not}
 use Prim.Native.Nat.{ℕ, _+_, _/_, _%_, _<_}
 use native.Mathlib.Omega.{arith}
 use lib.Dec.{eqb, ltb}
-use Rattle.bits.specs.Bits.{bit, byteOf}
+use Rattle.bits.specs.Bits.{bit}
 use Rattle.bits.specs.Choice.{pick, both, either}
-use Rattle.bits.specs.Places.{bytes}
 use Rattle.bits.proofs.Laws.{bit-number, bit<2}
 use Rattle.bits.proofs.Below.{pick-has}
-use Rattle.bits.proofs.Places.{getD-bytes}
-use Rattle.map.specs.Class.{computed, sameClass}
+use Rattle.access.specs.Access.{badOffset, badLanes}
+use Rattle.plain.specs.Plain.{Bits, undriven, shownValue}
+use Rattle.any_device.specs.Device as D
+use Rattle.any_device.proofs.EachBit.{made-bit, written<2, updated<2, ended<2}
 use Rattle.map.specs.Map.{classOf}
 use Rattle.rules.specs.declared.State.{State}
-use Rattle.rules.specs.Access.{byte, busy, badOffset, badLanes, done, refused}
+use Rattle.rules.specs.Access.{byte, busy, done, refused}
+use Rattle.rules.specs.Device.{pointer, builtIn, core}
 use Rattle.rules.specs.Guest.{bitAfter, writtenOf, stepOf, writeOf}
 use Rattle.rules.specs.Reset.{endedBit, endedOf, endOf}
-use Rattle.rules.specs.Read.{pointer, shownBit, readBit, readValue}
-use Rattle.rules.specs.Plain.{Bits, undriven, shownValue}
+use Rattle.rules.specs.Read.{shownBit, readBit, readValue}
 use Rattle.rules.specs.Host.{notHost, hostBit, hostStepOf, hostOf}
-use Rattle.rules.proofs.Access.{after<2, ended<2}
-
--- 256 bytes made of their bits: bit j of byte i
-of-bytes : (f : ℕ → ℕ → ℕ) → ((i j : ℕ) → f i j < 2) → (s : State) → s .bytes ≡ bytes (λ (i : ℕ). byteOf (f i)) → (i j : ℕ) → i < 256 → j < 8 → bit (byte s i) j ≡ f i j
-of-bytes f b s e i j h k = rw e (ap (λ (x : ℕ). bit x j) (getD-bytes (λ (i : ℕ). byteOf (f i)) i h) ∙ bit-number 8 (f i) (b i) j k)
 
 -- an accepted guest write
 pub bit-after : (s : State) (o l v i j : ℕ) → i < 256 → j < 8 → bit (byte (writtenOf s o l v) i) j ≡ bitAfter s o l v i j
 unfolding writtenOf
-bit-after s o l v i j h k = of-bytes (bitAfter s o l v) (after<2 s o l v) (writtenOf s o l v) refl i j h k
+bit-after s o l v i j h k = made-bit (bitAfter s o l v) (written<2 builtIn (core s) o l v) i j h k
 
 -- the end of a function reset
 pub bit-ended : (s : State) (i j : ℕ) → i < 256 → j < 8 → bit (byte (endedOf s) i) j ≡ endedBit s i j
 unfolding endedOf
-bit-ended s i j h k = of-bytes (endedBit s) (ended<2 s) (endedOf s) refl i j h k
-
-pub host<2 : (s : State) (o m v i j : ℕ) → hostBit s o m v i j < 2
-unfolding hostBit
-host<2 s o m v i j = pick-has (λ (x : ℕ). x < 2) (both (eqb i o) (eqb (bit m j) 1)) (bit v j) (bit (byte s i) j) (bit<2 v j) (bit<2 (byte s i) j)
+bit-ended s i j h k = made-bit (endedBit s) (ended<2 builtIn (core s)) i j h k
 
 -- an accepted host update
 pub bit-hosted : (s : State) (o m v i j : ℕ) → i < 256 → j < 8 → bit (byte (hostStepOf s o m v) i) j ≡ hostBit s o m v i j
 unfolding hostStepOf
-bit-hosted s o m v i j h k = of-bytes (hostBit s o m v) (host<2 s o m v) (hostStepOf s o m v) refl i j h k
+bit-hosted s o m v i j h k = made-bit (hostBit s o m v) (updated<2 builtIn (core s) o m v) i j h k
 
 -- ---- refused or accepted
 
@@ -87,8 +79,8 @@ each-bit-updated s o m v n h = rw (host-state s o m v) (go (not (either (ltb 255
     go false = refl
 
 pub read<2 : (s : State) (i j : ℕ) → readBit s i j < 2
-unfolding readBit shownBit
-read<2 s i j = pick-has (λ (x : ℕ). x < 2) (busy s) 1 _ (omega arith) (pick-has (λ (x : ℕ). x < 2) (sameClass (classOf i j) computed) (bit (pointer s) j) (bit (byte s i) j) (bit<2 (pointer s) j) (bit<2 (byte s i) j))
+unfolding readBit D.shownBit
+read<2 s i j = pick-has (λ (x : ℕ). x < 2) (busy s) 1 _ (omega arith) (pick-has (λ (x : ℕ). x < 2) (classOf i j .computed) (bit (pointer (s .bytes)) j) (bit (byte s i) j) (bit<2 (pointer (s .bytes)) j) (bit<2 (byte s i) j))
 
 -- bit n of a read's value: that of the byte in its lane where the lane is enabled, an undriven one elsewhere; for any bits
 pub shown-bit : (b : Bits) → ((i j : ℕ) → b i j < 2) → (o l n : ℕ) → n < 32 → bit (shownValue b o l) n ≡ pick (eqb (bit l (n / 8)) 1) (b (o + n / 8) (n % 8)) undriven

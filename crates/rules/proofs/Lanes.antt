@@ -9,14 +9,14 @@ use Rattle.bits.specs.Bits.{bit, numberOf, byteOf}
 use Rattle.bits.specs.Choice.{pick, both, mark}
 use Rattle.bits.proofs.Laws.{number-ext, number-split, bit-number, bit-zero, byte-bit, bytes-part}
 use Rattle.bits.proofs.Below.{both-left, both-right, both-off, either-left, mark<2, mark-is}
-use Rattle.answer.specs.Refusals.{number, value, Reply, ok, no, WIDTH, NOT-OURS, OTHER-FUNCTION}
+use Rattle.answer.specs.Refusals.{number, value, ok, no, WIDTH, NOT-OURS, OTHER-FUNCTION}
 use Rattle.rules.specs.declared.State.{State}
-use Rattle.rules.specs.Access.{badOffset, badLanes}
+use Rattle.access.specs.Access.{badOffset, badLanes}
 use Rattle.rules.specs.Read.{readBit, readValue}
-use Rattle.rules.specs.Plain.{Bits, undriven, shownValue, readReply}
-use Rattle.rules.specs.Ports.{DATA, badWidth, atLatch, atData, notOurs, otherFunction, dwordOf, portLanes, portValue, portReadOf}
+use Rattle.plain.specs.Plain.{Bits, undriven, shownValue, readReply}
+use Rattle.rules.specs.Ports.{DATA, badWidth, atLatch, atData, notOurs, otherFunction, here, dwordOf, portLanes, portValue, portReadOf}
 use Rattle.rules.specs.Lanes.{In-lanes, No-lanes, Refused-read, Shows, Direct, Through-port}
-use Rattle.rules.proofs.Access.{enabled-at, byteFor-at}
+use Rattle.access.proofs.Access.{enabled-at, byteFor-at}
 use Rattle.rules.proofs.EachBit.{shown-bit, read<2}
 
 -- ---- a direct read
@@ -97,7 +97,7 @@ shows-bit s o l d shows n h e =
 
 pub through-port : Through-port
 unfolding portReadOf
-through-port s p w v d n e shows = go (badWidth w) (notOurs (s .latch) p w) (otherFunction (s .latch)) refl (rw n at e)
+through-port s p w v d n e shows = go (badWidth w) (notOurs (s .latch) p w) (otherFunction here (s .latch)) refl (rw n at e)
   where
     go : (a b c : Bool) → notOurs (s .latch) p w ≡ b → pick a (no WIDTH) (pick b (no NOT-OURS) (pick c (no OTHER-FUNCTION) (ok (portValue s (dwordOf (s .latch) + (p - DATA)) w)))) ≡ ok v → v ≡ d / 256 ^ (p - DATA) % 256 ^ w
     go true b c q r = absurd (omega (arith, ap number r))

@@ -1,17 +1,14 @@
 pub mod Busy
-pub mod Access
 pub mod EachBit
 pub mod Lanes
+pub mod Stored
 pub mod NoLanes
 pub mod One
-pub mod Plain
 pub mod Kept
-pub mod Past
 mod Numbers
 pub mod Runs
 pub mod Good
-pub mod Once
-pub mod Fixed
+pub mod Histories
 pub mod Size
 pub mod Aligned
 pub mod WindowRuns

@@ -9,25 +9,30 @@ use Rattle.bits.proofs.Below.{both-right, pick-has}
 use Rattle.answer.specs.Refusals.{WIDTH, NOT-OURS, OTHER-FUNCTION, LANES, NOT-HOST, WINDOW-OFFSET}
 use Rattle.rules.specs.declared.State.{State}
 use Rattle.rules.specs.declared.Mapped.{Mapped}
-use Rattle.rules.specs.Access.{up, busy, badOffset, badLanes, Outcome, done, refused}
-use Rattle.rules.specs.Guest.{starts, raised, flagsAfter, writtenOf, stepOf, writeOf}
+use Rattle.rules.specs.Access.{busy, Outcome, done, refused}
+use Rattle.access.specs.Access.{badOffset, badLanes}
+use Rattle.any_device.proofs.Histories.{raised-up}
+use Rattle.rules.specs.Guest.{starts, flagsAfter, writtenOf, stepOf, writeOf}
 use Rattle.rules.specs.Reset.{endedOf, endOf}
 use Rattle.rules.specs.Host.{notHost, hostStepOf}
 use Rattle.rules.specs.Fresh.{freshOf}
 use Rattle.rules.specs.Window.{badWindow, withWindow, windowStepOf, windowWriteOf, beyond, requestMask, completeOf, faultMask, faultOf, cyclesOf, mirrorMask, mirrorUpdateOf}
-use Rattle.rules.specs.Ports.{ADDRESS, DATA, badWidth, atLatch, notOurs, otherFunction, latchOf, latched, dwordOf, portLanes, placed, portWriteOf}
+use Rattle.rules.specs.Ports.{ADDRESS, DATA, badWidth, atLatch, notOurs, otherFunction, here, latchOf, latched, dwordOf, portLanes, placed, portWriteOf}
 use Rattle.rules.specs.declared.WindowEvent.{WindowEvent}
 use Rattle.rules.specs.declared.WindowEvent.the-variants.{WindowRead, WindowWrite, Complete, Fault, AddCycles, MirrorUpdate}
 use Rattle.rules.specs.declared.Event.{Event}
 use Rattle.rules.specs.declared.Event.the-variants.{Read, Write, PortRead, PortWrite, HostUpdate, EndSignal, PlatformReset, InWindow}
 use Rattle.rules.specs.Events.{windowHappens, happens, next, runFrom, run}
-use Rattle.rules.specs.History.{isReset, anyReset, since, latchAfter, GuestWrite, none, at, acceptedWrite, unlessBusy, guestWrite, starting, Seen, seenNext, seen}
-use Rattle.rules.specs.Past.{ran}
+use Rattle.rules.specs.History.{isReset, latchAfter, GuestWrite, none, at, acceptedWrite, unlessBusy, guestWrite, starting, Seen, seenNext, seen, asDeed, deedOf, deeds}
+use Rattle.past.specs.Past.{ran}
+use Rattle.past.proofs.History as P
+use Rattle.any_device.specs.Class.{device}
+use Rattle.any_device.specs.Device.{idle, host, return, closedAfter, fresh, perform}
+use Rattle.any_device.specs.Kinds as K
+use Rattle.map.specs.Class.{ivyBridge}
+use Rattle.rules.specs.Device.{builtIn, core}
 use Rattle.rules.proofs.EachBit.{write-state, host-state}
-use Rattle.rules.proofs.Numbers.{direct-is, data-is}
-use Rattle.rules.proofs.Past as P
-
--- ---- the events since the last platform reset
+use Rattle.rules.proofs.Numbers.{below-is, direct-is, data-is}
 
 -- a platform reset forgets the state
 pub reset-forgets : (e : Event) (s : State) → isReset e ≡ true → happens e s .state ≡ freshOf
@@ -40,13 +45,6 @@ reset-forgets (HostUpdate o m v) s e = absurd (subst T (sym e) tt)
 reset-forgets EndSignal s e = absurd (subst T (sym e) tt)
 reset-forgets PlatformReset s e = refl
 reset-forgets (InWindow e) s h = absurd (subst T (sym h) tt)
-
--- a run is the run of what came since
-pub run-since : (es : List Event) → run es ≡ run (since es)
-run-since es = P.run-since isReset next freshOf reset-forgets es
-
-pub since-none : (es : List Event) → anyReset (since es) ≡ false
-since-none es = P.since-none isReset es
 
 -- ---- what an event comes to
 
@@ -80,7 +78,7 @@ write-effect s o l v = write-state s o l v ∙ rw (direct-is o l) (go (not (eith
 
 pub port-effect : (s : State) (p w v : ℕ) → portWriteOf s p w v .state ≡ withLatch (latchAfter (s .latch) (PortWrite p w v)) (performed (guestWrite (seenOf s) (PortWrite p w v)) s)
 unfolding portWriteOf notOurs acceptedWrite stepOf writtenOf
-port-effect s p w v = rw (data-is (s .latch) p w) (go (badWidth w) (notOurs (s .latch) p w) (atLatch p w) (otherFunction (s .latch)) (busy s) refl refl refl)
+port-effect s p w v = rw (data-is (s .latch) p w) (go (badWidth w) (notOurs (s .latch) p w) (atLatch p w) (otherFunction here (s .latch)) (busy s) refl refl refl)
   where
     o : ℕ
     o = dwordOf (s .latch)
@@ -128,14 +126,6 @@ module _ (s : State) where
 
 -- ---- what is seen
 
-pub raised-up : (b : Bool) (x : ℕ) → up (raised b x) ≡ either b (up x)
-raised-up true x = go (eqb x 0) refl
-  where
-    go : (z : Bool) → eqb x 0 ≡ z → up (pick z 1 x) ≡ true
-    go true e = refl
-    go false e = rw e
-raised-up false x = refl
-
 seen-performed : (g : GuestWrite) (s : State) → seenOf (performed g s) ≡ record { latch = s .latch; busy = either (starting g) (busy s) }
 unfolding writtenOf flagsAfter starts
 seen-performed none s = refl
@@ -164,12 +154,41 @@ seen-event PlatformReset s = refl
 seen-event (InWindow e) s = ap seenOf (window-effect s e .1)
 
 pub seen-run : (es : List Event) → seenOf (run es) ≡ seen es
-unfolding freshOf ran
-seen-run es = go es freshOf
+unfolding freshOf
+seen-run es = P.seen-run next seenNext seenOf seen-event es freshOf
+
+-- ---- what an event comes to, as a deed of the device
+
+comes-guest : (g : GuestWrite) (s : State) → core (performed g s) ≡ perform builtIn (asDeed g) (core s)
+unfolding perform writtenOf flagsAfter closedAfter
+comes-guest none s = refl
+comes-guest (at o l v) s = refl
+
+-- each event in turn: what it leaves of the device is what the deed leaves that the history names
+pub comes : (e : Event) (s : State) → core (happens e s .state) ≡ perform builtIn (deedOf (seenOf s) e) (core s)
+unfolding happens deedOf perform endOf endedOf hostStepOf freshOf fresh
+comes (Read o l) s = refl
+comes (Write o l v) s = ap core (write-effect s o l v) ∙ comes-guest (guestWrite (seenOf s) (Write o l v)) s
+comes (PortRead p w) s = refl
+comes (PortWrite p w v) s = ap core (port-effect s p w v) ∙ comes-guest (guestWrite (seenOf s) (PortWrite p w v)) s
+comes (HostUpdate o m v) s = ap core (host-state s o m v) ∙ rw (below-is 255 o) (go (ltb 255 o) (notHost o m) refl)
   where
-    go : (es : List Event) (s : State) → seenOf (runFrom s es) ≡ ran seenNext (seenOf s) es
-    go [] s = refl
-    go (e ∷ es) s = go es (happens e s .state) ∙ ap (λ (x : Seen). ran seenNext x es) (seen-event e s)
+    go : (a b : Bool) → notHost o m ≡ b → core (pick (not (either a b)) (hostStepOf s o m v) s) ≡ perform builtIn (pick (not a) (host device o m v) idle) (core s)
+    go true b e = refl
+    go false true e = rw e
+    go false false e = rw e
+comes EndSignal s = go (busy s)
+  where
+    go : (b : Bool) → core (pick b (endedOf s) s) ≡ perform builtIn (pick b return idle) (core s)
+    go true = refl
+    go false = refl
+comes PlatformReset s = refl
+comes (InWindow e) s = ap core (window-effect s e .1)
+
+-- a run's bytes and fields are those of its deeds
+pub run-deeds : (es : List Event) → core (run es) ≡ K.run builtIn ivyBridge (deeds es)
+unfolding freshOf fresh
+run-deeds es = P.run-retold next seenNext seenOf seen-event (perform builtIn) core deedOf comes es freshOf
 
 -- ---- what every event keeps, every run keeps
 

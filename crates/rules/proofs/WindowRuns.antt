@@ -4,25 +4,26 @@ use mathlib.Core.List.{List, [], _∷_}
 use mathlib.Core.Bool.{Bool, true, false, not}
 use Prim.Native.Nat.{ℕ, _+_, _-_, _*_, _/_, _%_, _^_, _≤_, _<_}
 use native.Mathlib.Omega.{arith}
-use native.Mathlib.Nat.{add-zero, zero-add, mod-eq-of-lt}
+use native.Mathlib.Nat.{add-zero}
 use lib.Dec.{T, eqb, ltb, eqb→eq}
 use borrow.Author.Tests.{eq-eqb, le-ltb}
 use Rattle.bits.specs.Bits.{bit, numberOf}
 use Rattle.bits.specs.Choice.{pick, both, either, allBelow}
 use Rattle.bits.proofs.Laws.{number-ext, bit-number, bit<2, bit-zero}
-use Rattle.bits.proofs.Below.{both-off, pick-has, either-left, either-right, below, is-true}
+use Rattle.bits.proofs.Below.{both-off, pick-has, below, is-true}
 use Rattle.answer.specs.Refusals.{ok, LANES, NOT-HOST, WINDOW-OFFSET}
 use Rattle.map.specs.Registers.{PCICMD2, MSAC}
 use Rattle.rules.specs.declared.State.{State}
 use Rattle.rules.specs.declared.Mapped.{Mapped}
-use Rattle.rules.specs.Access.{byte, busy, enabled, byteFor, badLanes, Outcome, done, refused}
-use Rattle.rules.specs.Guest.{sizeOf, exponentOf, writtenOf}
+use Rattle.rules.specs.Access.{byte, busy, Outcome, done, refused}
+use Rattle.access.specs.Access.{enabled, byteFor, badLanes}
+use Rattle.rules.specs.Device.{sizeOf, exponentOf}
+use Rattle.rules.specs.Guest.{writtenOf}
 use Rattle.rules.specs.Host.{notHost, hostStepOf, hostOf}
 use Rattle.rules.specs.Reset.{endedOf, endOf}
 use Rattle.rules.specs.Fresh.{freshWindow, freshOf}
-use Rattle.rules.specs.Past as P
-use Rattle.rules.specs.Past.{nothing, given, orHeld, ran, lastGiven}
-use Rattle.rules.specs.Plain.{Bits, undriven, laneValue, shownValue}
+use Rattle.past.specs.Past.{nothing, given, orHeld, ran, lastGiven}
+use Rattle.plain.specs.Plain.{Bits, undriven, laneValue, shownValue}
 use Rattle.rules.specs.Claims.{Claimed, unclaimed, claimed, translation, aperture, io, translationBase, apertureBase, translationExponent, holds, off, apertureClaim, memoryClaimOf}
 use Rattle.rules.specs.Window.{FAULT-REG, ASSRREQ, MTOUUD, MTOUUD-HIGH, MBDSM, DRAM-CYCLES, badWindow, withWindow, windowBit, windowReadBit, windowReadOf, withFault, withAssrreq, withMtouud, withMtouudh, withMbdsm, withCycles, clears, asks, acknowledged, requested, faulted, windowWritten, windowStepOf, windowWriteOf, beyond, masked, requestMask, completeOf, faultMask, faultOf, cyclesOf, mirrorMask, mirrored, mirrorUpdateOf}
 use Rattle.rules.specs.declared.WindowEvent.{WindowEvent}
@@ -30,12 +31,12 @@ use Rattle.rules.specs.declared.WindowEvent.the-variants.{WindowRead, Wi
 use Rattle.rules.specs.declared.Event.{Event}
 use Rattle.rules.specs.declared.Event.the-variants.{Read, Write, PortRead, PortWrite, HostUpdate, EndSignal, PlatformReset, InWindow}
 use Rattle.rules.specs.Events.{windowHappens, happens, next, runFrom, run}
-use Rattle.rules.specs.History.{isReset, anyReset, since, GuestWrite, none, at, Seen, guestWrite}
-use Rattle.rules.specs.WindowRuns.{isMirror, ofWindow, mirrorGives, mirrorBit, Mirrors, Mirrors-read, counted, total, Sum, clearing, Locked, Requests, Left, Apart, Window-busy, Window-lanes, Window-no-lanes, Window-unlaned, Claimed-reached}
-use Rattle.rules.proofs.Past.{history}
+use Rattle.rules.specs.History.{isReset, GuestWrite, none, at, Seen, guestWrite}
+use Rattle.rules.specs.WindowRuns.{isMirror, ofWindow, mirrorGives, gives, mirrorBit, Mirrors, Mirrors-read, counted, countNext, Sum, clearing, Locked, Requests, Left, Apart, Window-busy, Window-lanes, Window-no-lanes, Window-unlaned, Claimed-reached}
+use Rattle.past.proofs.History.{history}
 use Rattle.rules.proofs.EachBit.{host-state}
 use Rattle.rules.proofs.Lanes.{in-lanes, no-lanes}
-use Rattle.rules.proofs.Runs.{reset-forgets, run-since, since-none, each-keeps, performed, seenOf, seen-run, write-effect, port-effect, window-effect}
+use Rattle.rules.proofs.Runs.{reset-forgets, each-keeps, performed, seenOf, seen-run, write-effect, port-effect, window-effect}
 
 -- ---- 5. what leaves the window, and what the window leaves
 
@@ -184,10 +185,17 @@ module _ (o : ℕ) (F : Mapped → ℕ) (shows : (w : Mapped) (n : ℕ) → wind
 
   mirror-history : (n : ℕ) → n < 32 → bit (F freshWindow) n ≡ 0 → (es : List Event) → windowBit (run es .window) o n ≡ mirrorBit o n es
   unfolding freshOf happens
-  mirror-history n h z es = shows (run es .window) n ∙ history isReset next freshOf reset-forgets (λ s. bit (F (s .window)) n) (λ s. Unit {0}) (ofWindow nothing (mirrorGives o n)) event (λ e s r t. tt) tt es ∙ ap (orHeld (lastGiven (ofWindow nothing (mirrorGives o n)) (since es))) z
+  mirror-history n h z es = shows (run es .window) n ∙ history next (λ (e : Event) (x : Unit {0}). x) (λ s. tt) (λ e s. refl) B (λ (x : Unit {0}). gives o n) (λ (x : Unit {0}). Unit {0}) (λ e x g t. tt) event es freshOf tt ∙ ap (orHeld (lastGiven (λ (e : Event) (x : Unit {0}). x) (λ (x : Unit {0}). gives o n) tt es)) z
     where
-      event : (e : Event) (s : State) → isReset e ≡ false → Unit {0} → bit (F (happens e s .state .window)) n ≡ orHeld (ofWindow nothing (mirrorGives o n) e) (bit (F (s .window)) n)
-      event e s = by-window (λ e. isReset e ≡ false → Unit {0} → bit (F (happens e s .state .window)) n ≡ orHeld (ofWindow nothing (mirrorGives o n) e) (bit (F (s .window)) n)) (λ e out r t. ap (λ (w : Mapped). bit (F w) n) (window-left e s r out) ∙ rw (elsewhere nothing (mirrorGives o n) e out)) (λ w r t. register-event w s n h) e
+      B : State → ℕ
+      B s = bit (F (s .window)) n
+
+      outer : (e : Event) (s : State) → ofWindow true (λ (w : WindowEvent). false) e ≡ true → (b : Bool) → isReset e ≡ b → B (happens e s .state) ≡ orHeld (pick b (given 0) (ofWindow nothing (mirrorGives o n) e)) (B s)
+      outer e s out true r = ap B (reset-forgets e s r) ∙ z
+      outer e s out false r = ap (λ (w : Mapped). bit (F w) n) (window-left e s r out) ∙ rw (elsewhere nothing (mirrorGives o n) e out)
+
+      event : (e : Event) (s : State) → Unit {0} → B (happens e s .state) ≡ orHeld (gives o n e) (B s)
+      event e s t = by-window (λ e. B (happens e s .state) ≡ orHeld (gives o n e) (B s)) (λ e out. outer e s out (isReset e) refl) (λ w. register-event w s n h) e
 
 -- each mirror is changed where the update is its own
 another : (p x y : ℕ) → eqb x y ≡ false → eqb p x ≡ true → eqb p y ≡ true → ⊥
@@ -294,19 +302,25 @@ sum-next : (e : Event) (s : State) → isReset e ≡ false → Added (happens e 
 unfolding happens
 sum-next e s = by-window (λ e. isReset e ≡ false → Added (happens e s .state .window .cycles) (s .window .cycles) (ofWindow 0 counted e)) (λ e out r. rw (elsewhere 0 counted e out) (uncounted _ _ (ap (λ (w : Mapped). w .cycles) (window-left e s r out)))) (λ w r. sum-event w s) e
 
-more : (z x y c t : ℕ) → Added z x t → Added x y c → Added z y (c + t)
-more z x y c t f e = (f .0 ∙ omega (arith, e .0), λ h. f .1 (e .1 h))
-
-sum-from : (es : List Event) (s : State) → anyReset es ≡ false → Added (runFrom s es .window .cycles) (s .window .cycles) (total es)
-unfolding ran P.anyReset total
-sum-from [] s n = uncounted _ _ refl
-sum-from (e ∷ es) s n = more _ _ _ (ofWindow 0 counted e) (total es) (sum-from es (happens e s .state) (either-right (isReset e) (anyReset es) n)) (sum-next e s (either-left (isReset e) (anyReset es) n))
+-- one event: from a sum of n, past 32 bits wrapped, to the sum that the event counts
+sum-one : (e : Event) (s : State) (n : ℕ) → s .window .cycles ≡ n % 2 ^ 32 → happens e s .state .window .cycles ≡ countNext e n % 2 ^ 32
+unfolding freshOf
+sum-one e s n h = go (isReset e) refl
+  where
+    go : (b : Bool) → isReset e ≡ b → happens e s .state .window .cycles ≡ pick b 0 (n + ofWindow 0 counted e) % 2 ^ 32
+    go true r = ap (λ (t : State). t .window .cycles) (reset-forgets e s r)
+    go false r =
+        let a = sum-next e s r in
+        let small : happens e s .state .window .cycles < 2 ^ 32 = a .1 (omega (arith, h)) in
+        omega (arith, h, a .0, small)
 
 pub cycle-sum : Sum
-unfolding freshOf
-cycle-sum es =
-    let a = sum-from (since es) freshOf (since-none es) in
-    ap (λ (s : State). s .window .cycles) (run-since es) ∙ sym (mod-eq-of-lt (a .1 (omega arith))) ∙ a .0 ∙ ap (λ (x : ℕ). x % 2 ^ 32) (zero-add (total (since es)))
+unfolding freshOf ran
+cycle-sum es = go es freshOf 0 refl
+  where
+    go : (es : List Event) (s : State) (n : ℕ) → s .window .cycles ≡ n % 2 ^ 32 → runFrom s es .window .cycles ≡ ran countNext n es % 2 ^ 32
+    go [] s n h = h
+    go (e ∷ es) s n h = go es (happens e s .state) (countNext e n) (sum-one e s n h)
 
 -- ---- 4. requests
 

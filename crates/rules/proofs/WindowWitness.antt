@@ -4,19 +4,22 @@ use mathlib.Core.List.{List, [], _∷_}
 use Rattle.bits.specs.Bits.{numberOf}
 use Rattle.answer.specs.Refusals.{fine, ok, no, LANES, NOT-HOST, WINDOW-OFFSET}
 use Rattle.map.specs.Registers.{PCICMD2, GTTMMADR, AFCTL}
-use Rattle.map.specs.Map.{rows, rowAt, classOf, defaults}
-use Rattle.rules.specs.Access.{enabled, byteFor}
-use Rattle.rules.specs.Guest.{bitsTaken, takenBy, takes, store, clear, starts, storedBit, sizeAfter, bitAfter, ofField, touches, flagsAfter, writtenOf, stepOf, writeOf}
-use Rattle.rules.specs.Reset.{reset, endedBit, endedOf, endOf}
+use Rattle.any_map.specs.Map.{rowAt, classAt, defaults}
+use Rattle.map.specs.Map.{rows}
+use Rattle.access.specs.Access.{enabled, byteFor}
+use Rattle.any_device.specs.Device.{heldBack, storedBit, swept, writtenBit, touches, endedBit, placesOf}
+use Rattle.rules.specs.Device.{bitsTaken, takenBy, holdsBy, sweeps, spans}
+use Rattle.rules.specs.Guest.{starts, flagsAfter, writtenOf, stepOf, writeOf}
+use Rattle.rules.specs.Reset.{endedOf, endOf}
 use Rattle.rules.specs.Fresh.{freshOf}
-use Rattle.rules.specs.Past.{ran, anyReset, since, lastGiven}
+use Rattle.past.specs.Past.{ran, lastGiven}
 use Rattle.rules.specs.Claims.{claimed, translation, base, memoryClaimOf}
 use Rattle.rules.specs.Window.{FAULT-REG, ASSRREQ, MTOUUD-HIGH, MBDSM, DRAM-CYCLES, windowBit, windowReadBit, windowReadOf, requested, acknowledged, windowWritten, windowStepOf, windowWriteOf, beyond, masked, completeOf, recorded, faulted, faultOf, cyclesOf, mirrorMask, mirrored, mirrorUpdateOf}
 use Rattle.rules.specs.declared.WindowEvent.the-variants.{WindowRead, WindowWrite, Complete, Fault, AddCycles, MirrorUpdate}
 use Rattle.rules.specs.declared.Event.{Event}
 use Rattle.rules.specs.declared.Event.the-variants.{Write, EndSignal, PlatformReset, InWindow}
 use Rattle.rules.specs.Events.{windowHappens, happens, run}
-use Rattle.rules.specs.WindowRuns.{mirrorBit, total}
+use Rattle.rules.specs.WindowRuns.{mirrorBit, countNext}
 
 -- ---- the runs
 
@@ -68,7 +71,7 @@ pub record Witnessed : Type 0 where
   pub asked-read : windowReadOf (run asked) ASSRREQ 15 ≡ ok 0x00000002
   pub asked-lane : windowReadOf (run asked) ASSRREQ 1 ≡ ok 0xFFFFFF02
   pub summed-read : windowReadOf (run summed) DRAM-CYCLES 15 ≡ ok 0x00000002
-  pub summed-total : total summed ≡ 0x100000002
+  pub summed-total : ran countNext 0 summed ≡ 0x100000002
   pub busied-read : windowReadOf (run busied) ASSRREQ 15 ≡ ok 0xFFFFFFFF
   pub busied-ended : windowReadOf (endOf (run busied)) ASSRREQ 15 ≡ ok 0
   pub busied-sum : windowReadOf (endOf (run busied)) DRAM-CYCLES 15 ≡ ok 7
@@ -86,7 +89,7 @@ pub record Witnessed : Type 0 where
   pub elsewhere : windowReadOf (run reflected) 0x108088 15 ≡ ok 0
 
 pub witnessed : Witnessed
-unfolding numberOf rows rowAt classOf defaults enabled byteFor bitsTaken takenBy takes store clear starts storedBit sizeAfter bitAfter ofField touches flagsAfter writtenOf stepOf writeOf reset endedBit endedOf endOf freshOf base memoryClaimOf happens ran anyReset since lastGiven windowBit windowReadBit windowReadOf requested acknowledged windowWritten windowStepOf windowWriteOf beyond masked completeOf recorded faulted faultOf cyclesOf mirrorMask mirrored mirrorUpdateOf windowHappens total
+unfolding numberOf rows rowAt classAt defaults enabled byteFor bitsTaken takenBy holdsBy sweeps spans placesOf heldBack storedBit swept writtenBit touches endedBit starts flagsAfter writtenOf stepOf writeOf endedOf endOf freshOf base memoryClaimOf happens ran lastGiven windowBit windowReadBit windowReadOf requested acknowledged windowWritten windowStepOf windowWriteOf beyond masked completeOf recorded faulted faultOf cyclesOf mirrorMask mirrored mirrorUpdateOf windowHappens
 witnessed = record {
   reflected-read = refl;
   reflected-bit = refl;

@@ -6,20 +6,26 @@ use Rattle.bits.specs.Bits.{numberOf}
 use Rattle.answer.specs.Refusals.{ok, no, NOT-OURS, OTHER-FUNCTION, OFFSET, LANES, NOT-HOST}
 use Rattle.map.specs.Registers.{VID2, DID2, PCICMD2, GMADR, SVID2, CAPPOINT, HSRW, AFCTL, SWSCI}
 use Rattle.map.specs.Class.{svid2, sid2, swsci15}
-use Rattle.map.specs.Map.{rows, rowAt, classOf, defaults}
-use Rattle.rules.specs.Access.{byte, enabled, byteFor}
-use Rattle.rules.specs.Guest.{bitsTaken, takenBy, takes, store, clear, starts, storedBit, sizeAfter, bitAfter, ofField, touches, flagsAfter, writtenOf, stepOf, writeOf}
-use Rattle.rules.specs.Reset.{reset, endedBit, endedOf, endOf}
-use Rattle.rules.specs.Read.{pointer, shownBit, readBit, readValue, readOf}
-use Rattle.rules.specs.Host.{notHost, hostBit, hostStepOf, hostOf}
+use Rattle.any_map.specs.Map.{rowAt, classAt, defaults}
+use Rattle.map.specs.Map.{rows}
+use Rattle.rules.specs.Access.{byte}
+use Rattle.access.specs.Access.{enabled, byteFor}
+use Rattle.any_device.specs.Device.{heldBack, storedBit, swept, writtenBit, touches, updatedBit, notHosted, endedBit, shownBit, placesOf}
+use Rattle.any_device.specs.Kinds.{gives, ofField, touching}
+use Rattle.any_device.specs.First.{no-write, first}
+use Rattle.rules.specs.Device.{bitsTaken, takenBy, holdsBy, sweeps, pointer, spans}
+use Rattle.rules.specs.Guest.{starts, flagsAfter, writtenOf, stepOf, writeOf}
+use Rattle.rules.specs.Reset.{endedOf, endOf}
+use Rattle.rules.specs.Read.{readBit, readValue, readOf}
+use Rattle.rules.specs.Host.{hostStepOf, hostOf}
 use Rattle.rules.specs.Fresh.{freshOf}
 use Rattle.rules.specs.Ports.{notOurs, otherFunction, latchOf, portLanes, portValue, portReadOf, portWriteOf}
 use Rattle.rules.specs.Claims.{base, apertureBase}
 use Rattle.rules.specs.declared.Event.{Event}
 use Rattle.rules.specs.declared.Event.the-variants.{Write, PortRead, PortWrite, HostUpdate, EndSignal, PlatformReset}
 use Rattle.rules.specs.Events.{happens, run}
-use Rattle.rules.specs.History.{none, at, acceptedWrite, seen, firstFrom, firstWrite, gives, lastUpdate}
-use Rattle.rules.specs.Past.{nothing, given, ran, anyReset, since, lastGiven}
+use Rattle.rules.specs.History.{acceptedWrite, seen, deedOf, firstWrite, lastUpdate}
+use Rattle.past.specs.Past.{nothing, given, ran, lastGiven, retold}
 use Rattle.rules.specs.Demand3.{codeOf}
 
 -- ---- the runs
@@ -76,13 +82,13 @@ latching = PortWrite 0xCF8 4 0x80001000 ∷ Write AFCTL 1 1 ∷ EndSignal ∷ []
 
 pub record Witnessed : Type 0 where
   -- 1. write-once
-  pub halves-first : firstWrite svid2 halves ≡ at SVID2 1 0x34
+  pub halves-first : firstWrite svid2 halves .write ≡ first SVID2 1 0x34
   pub halves-read : readOf (run halves) SVID2 3 ≡ ok 0xFFFF0034
-  pub halves-none : firstWrite sid2 halves ≡ none
+  pub halves-none : firstWrite sid2 halves .write ≡ no-write
   pub halves-returned : readOf (run halves) PCICMD2 3 ≡ ok 0xFFFF0000
-  pub ports-first : firstWrite sid2 ports ≡ at SVID2 15 0xABCD1234
+  pub ports-first : firstWrite sid2 ports .write ≡ first SVID2 15 0xABCD1234
   pub ports-read : readOf (run ports) SVID2 15 ≡ ok 0xABCD1234
-  pub default-first : firstWrite swsci15 default ≡ at SWSCI 2 0
+  pub default-first : firstWrite swsci15 default .write ≡ first SWSCI 2 0
   pub default-read : readOf (run default) SWSCI 15 ≡ ok 0x00000001
   pub beside-read : readOf (run beside) SWSCI 15 ≡ ok 0x00008001
   pub unlaned-read : readOf (run unlaned) SVID2 15 ≡ ok 0x00001234
@@ -121,7 +127,7 @@ pub record Witnessed : Type 0 where
   pub port-read-high : happens (PortRead 0xCFE 2) (run (PortWrite 0xCF8 4 0x80001000 ∷ [])) .reply ≡ ok 0x0152
 
 pub witnessed : Witnessed
-unfolding numberOf rows rowAt classOf defaults enabled byteFor bitsTaken takenBy takes store clear starts storedBit sizeAfter bitAfter ofField touches flagsAfter writtenOf stepOf writeOf reset endedBit endedOf endOf pointer shownBit readBit readValue readOf notHost hostBit hostStepOf hostOf freshOf notOurs otherFunction latchOf portLanes portValue portReadOf portWriteOf base happens ran anyReset since acceptedWrite firstFrom gives lastGiven
+unfolding numberOf rows rowAt classAt defaults enabled byteFor bitsTaken takenBy holdsBy sweeps spans placesOf heldBack storedBit swept writtenBit touches endedBit starts flagsAfter writtenOf stepOf writeOf endedOf endOf updatedBit notHosted pointer shownBit readBit readValue readOf hostStepOf hostOf freshOf notOurs otherFunction latchOf portLanes portValue portReadOf portWriteOf base happens ran retold lastGiven acceptedWrite deedOf gives ofField touching
 witnessed = record {
   halves-first = refl;
   halves-read = refl;

@@ -6,7 +6,7 @@ use Rattle.bits.specs.Choice.{if_then_else_, _or_, _is_, _<?_}
 use Rattle.map.specs.Registers.{PCICMD2, GTTMMADR, GMADR, IOBAR, MSAC, PMCS}
 use Rattle.rules.specs.declared.State.{State}
 use Rattle.rules.specs.Access.{byte, busy}
-use Rattle.rules.specs.Guest.{sizeOf, exponentOf}
+use Rattle.rules.specs.Device.{sizeOf, exponentOf}
 
 -- ---- what a claim gives
 

@@ -8,13 +8,16 @@ use Rattle.bits.specs.Bits.{bit, numberOf, byteOf}
 use Rattle.bits.specs.Choice.{if_then_else_, _is_}
 use Rattle.answer.specs.Refusals.{number, value, ok}
 use Rattle.map.specs.Registers.{SVID2, SID2, CAPPOINT, CAPL, MSAC, AFCTL, SWSCI}
-use Rattle.map.specs.Class.{Field, svid2, sid2, swsci15, resetStart, stores, hasF, sameClass}
+use Rattle.any_device.specs.Class.{stores, hasF}
+use Rattle.map.specs.Class.{Field, svid2, sid2, swsci15}
 use Rattle.map.specs.Map.{classOf, defaultAt}
 use Rattle.rules.specs.declared.State.{State}
-use Rattle.rules.specs.Access.{byte, busy, badOffset}
-use Rattle.rules.specs.Guest.{sizeOf, starts, writeOf}
+use Rattle.rules.specs.Access.{byte, busy}
+use Rattle.access.specs.Access.{badOffset}
+use Rattle.rules.specs.Device.{sizeOf}
+use Rattle.rules.specs.Guest.{starts, writeOf}
 use Rattle.rules.specs.Read.{shownBit, readOf}
-use Rattle.rules.specs.Plain.{readReply, shownValue}
+use Rattle.plain.specs.Plain.{readReply, shownValue}
 use Rattle.rules.specs.Reset.{endOf}
 use Rattle.rules.specs.Ports.{atLatch, portValue, portWriteOf}
 use Rattle.rules.specs.Claims.{apertureBase, unclaimed, memoryClaimOf, ioClaimOf}
@@ -76,9 +79,9 @@ Unclaimed = (s : State) (a : ℕ) → busy s ≡ true → (memoryClaimOf s a ≡
 abbrev pub Started : Type 0
 Started = (s : State) (o l v i j : ℕ) → badOffset o ≡ false → starts o l v ≡ true → i < 256 → j < 8 → bit (byte (writeOf s o l v .state) i) j ≡ bit (byte s i) j
 
--- At the end signal F bits hold their defaults, the bit that starts a reset is 0, every other bit stays, the latch too, and the state is not busy.
+-- At the end signal F bits hold their defaults, and so does the bit that starts a reset, every other bit stays, the latch too, and the state is not busy.
 abbrev pub Ended : Type 0
-Ended = (s : State) (i j : ℕ) → busy s ≡ true → i < 256 → j < 8 → (busy (endOf s) ≡ false) × (endOf s .latch ≡ s .latch) × (bit (byte (endOf s) i) j ≡ (if hasF (classOf i j) then bit (defaultAt i) j else if sameClass (classOf i j) resetStart then 0 else bit (byte s i) j))
+Ended = (s : State) (i j : ℕ) → busy s ≡ true → i < 256 → j < 8 → (busy (endOf s) ≡ false) × (endOf s .latch ≡ s .latch) × (bit (byte (endOf s) i) j ≡ (if hasF (classOf i j) then bit (defaultAt i) j else bit (byte s i) j))
 
 -- When not busy it changes nothing.
 abbrev pub Unended : Type 0

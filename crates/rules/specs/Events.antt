@@ -14,7 +14,7 @@ use Rattle.rules.specs.Reset.{endOf}
 use Rattle.rules.specs.Fresh.{freshOf}
 use Rattle.rules.specs.Window.{windowReadOf, windowWriteOf, completeOf, faultOf, cyclesOf, mirrorUpdateOf}
 use Rattle.rules.specs.Ports.{portReadOf, portWriteOf}
-use Rattle.rules.specs.Past.{ran}
+use Rattle.past.specs.Past.{ran}
 
 -- a read leaves the state
 abbrev pub looked : Reply → State → Outcome

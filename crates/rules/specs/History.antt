@@ -1,20 +1,22 @@
--- The history of a bit, from the list of events alone: no state is asked. What a guest write must be to count is said in the paper's numbers and not by the machine's tests.
-use mathlib.Core.List.{List, [], _∷_}
+-- What each event comes to, from the list of events alone: no state is asked. What a guest write must be to count is said in the paper's numbers and not by the machine's tests.
+use mathlib.Core.List.{List}
 use mathlib.Core.Bool.{Bool, true, false}
 use Prim.Native.Nat.{ℕ, _+_, _-_, _*_, _%_}
 use Rattle.bits.specs.Bits.{bit, field}
-use Rattle.bits.specs.Choice.{if_then_else_, _and_, _or_, _is_, _≤?_, _<?_, anyBelow}
-use Rattle.map.specs.Class.{Field, svid2, sid2, swsci15, isHost}
-use Rattle.map.specs.Map.{classOf, defaultAt}
-use Rattle.rules.specs.Past as P
-use Rattle.rules.specs.Past.{Given, nothing, orHeld, lastGiven}
-use Rattle.rules.specs.Plain.{updateGives}
-use Rattle.rules.specs.Access.{enabled, byteFor}
+use Rattle.bits.specs.Choice.{if_then_else_, _and_, _or_, _is_, _≤?_, _<?_}
+use Rattle.access.specs.Access.{enabled, byteFor}
+use Rattle.past.specs.Past.{Given, orHeld, ran, retold}
+use Rattle.any_device.specs.Class.{device}
+use Rattle.any_device.specs.Device.{Deed, idle, guest, host, return, anew}
+use Rattle.any_device.specs.Kinds.{last, Read-only}
+use Rattle.any_device.specs.First as F
+use Rattle.any_device.specs.First.{Since, firstSince}
+use Rattle.map.specs.Class.{Platform, ivyBridge, Field, svid2, sid2, swsci15, fieldNumber}
+use Rattle.map.specs.Map.{defaultAt}
+use Rattle.rules.specs.Device.{builtIn}
 use Rattle.rules.specs.Ports.{latchOf, portLanes, placed}
 use Rattle.rules.specs.declared.Event.{Event}
 use Rattle.rules.specs.declared.Event.the-variants.{Read, Write, PortRead, PortWrite, HostUpdate, EndSignal, PlatformReset, InWindow}
-
--- ---- the events since the last platform reset, or the start
 
 abbrev pub isReset : Event → Bool
 isReset (Read o l) = false
@@ -25,12 +27,6 @@ isReset (HostUpdate o m v) = false
 isReset EndSignal = false
 isReset PlatformReset = true
 isReset (InWindow e) = false
-
-abbrev pub anyReset : List Event → Bool
-anyReset es = P.anyReset isReset es
-
-abbrev pub since : List Event → List Event
-since es = P.since isReset es
 
 -- ---- the port latch, by the accepted writes to CF8h
 
@@ -109,56 +105,49 @@ abbrev pub seenNext : Event → Seen → Seen
 seenNext e x = record { latch = latchAfter (x .latch) e; busy = busyAfter x e }
 
 abbrev pub seen : List Event → Seen
-seen es = P.ran seenNext atStart es
+seen es = ran seenNext atStart es
 
--- ---- the first write to a field
+-- ---- what an event does to the configuration bytes, after the events that told x
 
--- the bytes of each field: SVID2 is 2C and 2D, SID2 2E and 2F, SWSCI's bit 15 is in E9
-abbrev pub inField : Field → ℕ → Bool
-inField svid2 i = i is 0x2C or i is 0x2D
-inField sid2 i = i is 0x2E or i is 0x2F
-inField swsci15 i = i is 0xE9
+abbrev pub asDeed : GuestWrite → Deed Platform
+asDeed none = idle
+asDeed (at o l v) = guest o l v
 
--- its bits: all of these bytes, of E9 bit 7 alone
+-- a host update of a byte past FF is refused; an end signal ends what is under way; a platform reset starts anew
+unfoldable pub deedOf : Seen → Event → Deed Platform
+deedOf x (Read o l) = idle
+deedOf x (Write o l v) = asDeed (guestWrite x (Write o l v))
+deedOf x (PortRead p w) = idle
+deedOf x (PortWrite p w v) = asDeed (guestWrite x (PortWrite p w v))
+deedOf x (HostUpdate o m v) = if o <? 256 then host device o m v else idle
+deedOf x EndSignal = if x .busy then return else idle
+deedOf x PlatformReset = anew ivyBridge
+deedOf x (InWindow e) = idle
+
+abbrev pub deeds : List Event → List (Deed Platform)
+deeds es = retold seenNext deedOf atStart es
+
+-- ---- the write-once fields
+
+-- their bits in the paper's numbers: SVID2 is 2C and 2D, SID2 2E and 2F, SWSCI's bit 15 is bit 7 of E9
 abbrev pub bitOf : Field → ℕ → ℕ → Bool
-bitOf svid2 i j = inField svid2 i
-bitOf sid2 i j = inField sid2 i
-bitOf swsci15 i j = inField swsci15 i and j is 7
+bitOf svid2 i j = i is 0x2C or i is 0x2D
+bitOf sid2 i j = i is 0x2E or i is 0x2F
+bitOf swsci15 i j = i is 0xE9 and j is 7
 
--- one of the write's four lanes is enabled for a byte of the field
-abbrev pub touching : Field → GuestWrite → Bool
-touching f none = false
-touching f (at o l v) = anyBelow 4 (λ (k : ℕ). bit l k is 1 and inField f (o + k))
-
--- the first of them that does
-unfoldable pub firstFrom : Seen → Field → List Event → GuestWrite
-firstFrom x f [] = none
-firstFrom x f (e ∷ es) = if touching f (guestWrite x e) then guestWrite x e else firstFrom (seenNext e x) f es
-
-abbrev pub firstWrite : Field → List Event → GuestWrite
-firstWrite f es = firstFrom atStart f (since es)
+-- the first write that enables a byte of the field, since the last platform reset or the start
+abbrev pub firstWrite : Field → List Event → Since Platform
+firstWrite f es = firstSince builtIn (fieldNumber f) ivyBridge (deeds es)
 
 -- bit j of byte i: that write's enabled bytes over the default; the default where there is none
-abbrev pub overDefault : GuestWrite → ℕ → ℕ → ℕ
-overDefault none i j = bit (defaultAt i) j
-overDefault (at o l v) i j = if enabled o l i then bit (byteFor o v i) j else bit (defaultAt i) j
+abbrev pub overDefault : Since Platform → ℕ → ℕ → ℕ
+overDefault w i j = F.overDefault builtIn w i j
 
 -- ---- accepted host updates
 
--- what an event gives bit j of byte i, if it is an accepted host update that masks it
-unfoldable pub gives : ℕ → ℕ → Event → Given
-gives i j (Read o l) = nothing
-gives i j (Write o l v) = nothing
-gives i j (PortRead p w) = nothing
-gives i j (PortWrite p w v) = nothing
-gives i j (HostUpdate o m v) = updateGives (λ (i j : ℕ). isHost (classOf i j)) o m v i j
-gives i j EndSignal = nothing
-gives i j PlatformReset = nothing
-gives i j (InWindow e) = nothing
-
--- the last of them that does
+-- what the last of them that masked bit j of byte i gave, or a platform reset after it
 abbrev pub lastUpdate : ℕ → ℕ → List Event → Given
-lastUpdate i j es = lastGiven (gives i j) (since es)
+lastUpdate i j es = last builtIn (Read-only builtIn) i j ivyBridge (deeds es)
 
 -- the bit that it gave; the default where there is none
 abbrev pub orDefault : Given → ℕ → ℕ → ℕ

@@ -7,9 +7,9 @@ use Rattle.bits.specs.Bits.{byteOf}
 use Rattle.bits.specs.Choice.{if_then_else_}
 use Rattle.answer.specs.Refusals.{number, value, ok}
 use Rattle.rules.specs.declared.State.{State}
-use Rattle.rules.specs.Access.{enabled, byteFor}
+use Rattle.access.specs.Access.{enabled, byteFor}
 use Rattle.rules.specs.Read.{readBit, readValue}
-use Rattle.rules.specs.Plain.{Bits, shownValue, readReply}
+use Rattle.plain.specs.Plain.{Bits, shownValue, readReply}
 use Rattle.rules.specs.Ports.{DATA, atLatch, dwordOf, portLanes, portReadOf}
 
 -- 1. An accepted read gives each enabled byte in its place, and FF in the lanes that aren't enabled.

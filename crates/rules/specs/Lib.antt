@@ -1,6 +1,5 @@
 pub mod Access
-pub mod Plain
-pub mod Past
+pub mod Device
 pub mod Guest
 pub mod Read
 pub mod Reset

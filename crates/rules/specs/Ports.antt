@@ -34,9 +34,22 @@ badWidth w = not (w is 1 or w is 2 or w is 4)
 unfoldable pub notOurs : ℕ → ℕ → ℕ → Bool
 notOurs latch p w = not (atLatch p w) and (not (atData p w) or bit latch 31 is 0)
 
--- other bus, device or function
-unfoldable pub otherFunction : ℕ → Bool
-otherFunction latch = not (field latch 23 16 is 0 and field latch 15 11 is 2 and field latch 10 8 is 0)
+-- other bus, device or function than those that are there
+unfoldable pub otherFunction : (ℕ → ℕ → ℕ → Bool) → ℕ → Bool
+otherFunction there latch = not (there (field latch 23 16) (field latch 15 11) (field latch 10 8))
+
+-- where an access goes, over which functions are there: refused, to the latch, or to the data of that device
+abbrev pub route : {A : Type 0} → (ℕ → ℕ → ℕ → Bool) → ℕ → ℕ → ℕ → (ℕ → A) → A → (ℕ → A) → A
+route there latch p w refuse to-latch to-data =
+    if badWidth w then refuse WIDTH
+    else if notOurs latch p w then refuse NOT-OURS
+    else if atLatch p w then to-latch
+    else if otherFunction there latch then refuse OTHER-FUNCTION
+    else to-data (field latch 15 11)
+
+-- here bus 0, device 2, function 0 alone
+abbrev pub here : ℕ → ℕ → ℕ → Bool
+here bus device function = bus is 0 and device is 2 and function is 0
 
 -- ---- the latch
 
@@ -71,18 +84,8 @@ portValue s i w = numberOf (8 * w) (λ (n : ℕ). readBit s (i + n / 8) (n % 8))
 -- ---- the entries
 
 unfoldable pub portReadOf : State → ℕ → ℕ → Reply
-portReadOf s p w =
-    if badWidth w then no WIDTH
-    else if notOurs (s .latch) p w then no NOT-OURS
-    else if atLatch p w then ok (s .latch)
-    else if otherFunction (s .latch) then no OTHER-FUNCTION
-    else ok (portValue s (dwordOf (s .latch) + (p - DATA)) w)
+portReadOf s p w = route here (s .latch) p w no (ok (s .latch)) (λ (device : ℕ). ok (portValue s (dwordOf (s .latch) + (p - DATA)) w))
 
 -- an accepted data write is a guest write like any other
 unfoldable pub portWriteOf : State → ℕ → ℕ → ℕ → Outcome
-portWriteOf s p w v =
-    if badWidth w then refused WIDTH s
-    else if notOurs (s .latch) p w then refused NOT-OURS s
-    else if atLatch p w then done (latched s v)
-    else if otherFunction (s .latch) then refused OTHER-FUNCTION s
-    else done (stepOf s (dwordOf (s .latch)) (portLanes (p - DATA) w) (placed v (p - DATA) w))
+portWriteOf s p w v = route here (s .latch) p w (λ (n : ℕ). refused n s) (done (latched s v)) (λ (device : ℕ). done (stepOf s (dwordOf (s .latch)) (portLanes (p - DATA) w) (placed v (p - DATA) w)))

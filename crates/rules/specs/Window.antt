@@ -6,8 +6,9 @@ use Rattle.bits.specs.Choice.{if_then_else_, _and_, _or_, _is_, _<?_, anyBelow}
 use Rattle.answer.specs.Refusals.{Reply, NOT-HOST, WINDOW-OFFSET}
 use Rattle.rules.specs.declared.State.{State}
 use Rattle.rules.specs.declared.Mapped.{Mapped}
-use Rattle.rules.specs.Access.{busy, Outcome, done, refused, replyAt, outcomeAt}
-use Rattle.rules.specs.Plain.{laneValue}
+use Rattle.rules.specs.Access.{busy, Outcome, done, refused, outcomeAt}
+use Rattle.access.specs.Access.{replyAt}
+use Rattle.plain.specs.Plain.{laneValue}
 
 -- ---- the registers, by their offsets
 

@@ -1,15 +1,16 @@
 -- What holds of the window (W-207), clause by clause: after every run, or of every event in every state.
 use mathlib.Core.Path.{_≡_}
-use mathlib.Core.List.{List, [], _∷_}
+use mathlib.Core.List.{List}
 use mathlib.Core.Bool.{Bool, true, false, not}
 use Prim.Native.Nat.{ℕ, _+_, _*_, _%_, _^_, _≤_, _<_}
 use Rattle.bits.specs.Bits.{bit, numberOf, byteOf}
 use Rattle.bits.specs.Choice.{if_then_else_, _and_, _or_, _is_}
 use Rattle.answer.specs.Refusals.{ok, WINDOW-OFFSET}
 use Rattle.rules.specs.declared.State.{State}
-use Rattle.rules.specs.Access.{busy, enabled, byteFor, replyAt}
-use Rattle.rules.specs.Past.{Given, nothing, given, orHeld, lastGiven}
-use Rattle.rules.specs.Plain.{laneValue}
+use Rattle.rules.specs.Access.{busy}
+use Rattle.access.specs.Access.{enabled, byteFor, replyAt}
+use Rattle.past.specs.Past.{Given, nothing, given, orHeld, ran, lastGiven}
+use Rattle.plain.specs.Plain.{laneValue}
 use Rattle.rules.specs.Claims.{claimed, translation, memoryClaimOf}
 use Rattle.rules.specs.Window.{FAULT-REG, MTOUUD, MTOUUD-HIGH, MBDSM, badWindow, windowBit, windowReadBit, windowReadOf, clears, windowWriteOf, beyond, mirrorMask}
 use Rattle.rules.specs.declared.WindowEvent.{WindowEvent}
@@ -17,7 +18,7 @@ use Rattle.rules.specs.declared.WindowEvent.the-variants.{WindowRead, Wi
 use Rattle.rules.specs.declared.Event.{Event}
 use Rattle.rules.specs.declared.Event.the-variants.{Read, Write, PortRead, PortWrite, HostUpdate, EndSignal, PlatformReset, InWindow}
 use Rattle.rules.specs.Events.{windowHappens, happens, run}
-use Rattle.rules.specs.History.{isReset, since, seen}
+use Rattle.rules.specs.History.{isReset, seen}
 
 -- ---- 1. demand 3's read-only clause, of the mirrors
 
@@ -35,7 +36,7 @@ ofWindow x f EndSignal = x
 ofWindow x f PlatformReset = x
 ofWindow x f (InWindow e) = f e
 
--- what an event gives bit n of the mirror at o, if it is an accepted update that masks it
+-- what an event of the window gives bit n of the mirror at o, if it is an accepted update that masks it
 abbrev pub mirrorGives : ℕ → ℕ → WindowEvent → Given
 mirrorGives o n (WindowRead p l) = nothing
 mirrorGives o n (WindowWrite p l v) = nothing
@@ -44,9 +45,13 @@ mirrorGives o n (Fault v) = nothing
 mirrorGives o n (AddCycles c) = nothing
 mirrorGives o n (MirrorUpdate p m v) = if not (badWindow p or beyond (mirrorMask p) m) and p is o and bit m n is 1 then given (bit v n) else nothing
 
--- the last of them since the last platform reset, or the start; 0 where there is none
+-- a platform reset gives it 0
+abbrev pub gives : ℕ → ℕ → Event → Given
+gives o n e = if isReset e then given 0 else ofWindow nothing (mirrorGives o n) e
+
+-- the last that was given; 0 where nothing was
 abbrev pub mirrorBit : ℕ → ℕ → List Event → ℕ
-mirrorBit o n es = orHeld (lastGiven (ofWindow nothing (mirrorGives o n)) (since es)) 0
+mirrorBit o n es = orHeld (lastGiven (λ (e : Event) (x : Unit {0}). x) (λ (x : Unit {0}). gives o n) tt es) 0
 
 abbrev pub Mirrors : Type 0
 Mirrors = (es : List Event) (o n : ℕ) → isMirror o ≡ true → n < 32 → windowBit (run es .window) o n ≡ mirrorBit o n es
@@ -65,12 +70,11 @@ counted (Fault v) = 0
 counted (AddCycles n) = n
 counted (MirrorUpdate o m v) = 0
 
-unfoldable pub total : List Event → ℕ
-total [] = 0
-total (e ∷ es) = ofWindow 0 counted e + total es
+abbrev pub countNext : Event → ℕ → ℕ
+countNext e n = if isReset e then 0 else n + ofWindow 0 counted e
 
 abbrev pub Sum : Type 0
-Sum = (es : List Event) → run es .window .cycles ≡ total (since es) % 2 ^ 32
+Sum = (es : List Event) → run es .window .cycles ≡ ran countNext 0 es % 2 ^ 32
 
 -- ---- 3. a fault that is held stays, but for a platform reset and a guest write that clears it
 

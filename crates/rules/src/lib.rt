@@ -1,6 +1,5 @@
 // The twin's state, what can happen to it, and what an entry gives. What each event does is in specs/; this crate has no code.
 use answer::Answer;
-use answer::Refusal;
 
 // The write-once fields: 0 open, any other number closed. Busy: 0 where no function reset is under way, any other number where one is.
 #[repr(C)]
@@ -35,12 +34,6 @@ pub struct State {
 pub struct Stepped {
     pub answer: Answer,
     pub state: State,
-}
-
-// What is asked of an access before it is made.
-pub enum Admitted {
-    Yes,
-    No(Refusal),
 }
 
 // The window that claims an address, with the offset inside, or none.

@@ -99,7 +99,7 @@ pub fn named() -> Held
 {
     let mut bytes = room();
     if os::arg_count() != 2 {
-        sheet_faults::say(b"one argument is wanted: the name of a register sheet's file\n");
+        sheet_say::say(b"one argument is wanted: the name of a register sheet's file\n");
         return Held {
             bytes,
             n: 0,

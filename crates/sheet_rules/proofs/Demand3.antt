@@ -13,9 +13,9 @@ use Rattle.bits.proofs.Laws.{bit<2, bit-zero, number-ext, number-none}
 use Rattle.bits.proofs.Below.{any-none, unmasked}
 use Rattle.bits.proofs.Places.{getD-bytes}
 use Rattle.answer.specs.Refusals.{Reply, ok, no, OFFSET, LANES, number, value}
-use Rattle.rules.specs.Access.{badOffset, badLanes, byteFor}
-use Rattle.rules.specs.Plain.{held, under, shownValue}
-use Rattle.rules.proofs.Access.{good-offset}
+use Rattle.access.specs.Access.{badOffset, badLanes, byteFor}
+use Rattle.plain.specs.Plain.{held, under, shownValue}
+use Rattle.access.proofs.Access.{good-offset}
 use Rattle.rules.proofs.Lanes.{in-lanes}
 use Rattle.plain_device.specs.declared.Tables.{Tables}
 use Rattle.plain_device.specs.Device.{readOf}

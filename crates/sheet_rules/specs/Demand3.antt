@@ -4,8 +4,8 @@ use mathlib.Core.List.{List}
 use mathlib.Core.Bool.{true, false}
 use Prim.Native.Nat.{ℕ, _+_, _<_}
 use Rattle.answer.specs.Refusals.{ok}
-use Rattle.rules.specs.Access.{enabled, byteFor}
-use Rattle.rules.specs.Plain.{held}
+use Rattle.access.specs.Access.{enabled, byteFor}
+use Rattle.plain.specs.Plain.{held}
 use Rattle.plain_device.specs.Device.{readOf}
 use Rattle.plain_device.specs.declared.Event.{Event}
 use Rattle.plain_device.specs.ReadOnly as D

@@ -12,14 +12,15 @@ use Rattle.bits.proofs.Laws.{bit<2, number<}
 use Rattle.bits.proofs.Below.{pick-has}
 use Rattle.bits.proofs.Places.{length-bytes, at-each}
 use Rattle.answer.specs.Refusals.{Reply, fine, no, OFFSET, NOT-HOST}
-use Rattle.rules.specs.Access.{enabled, byteFor, badOffset}
-use Rattle.rules.specs.Plain.{Bits, under, held, outside, writtenBit, updatedBit}
-use Rattle.rules.proofs.Access.{admit-has}
+use Rattle.access.specs.Access.{enabled, byteFor, badOffset}
+use Rattle.plain.specs.Plain.{Bits, under, held, outside, writtenBit, updatedBit}
+use Rattle.access.proofs.Access.{admit-has}
 use Rattle.host_updates.specs.Update.{Lent, lent}
 use Rattle.plain_device.specs.declared.Tables.{Tables}
 use Rattle.plain_device.specs.declared.Event.{Event}
 use Rattle.plain_device.specs.declared.Event.the-variants.{Read, Write, HostUpdate, FunctionReset, PlatformReset}
-use Rattle.plain_device.specs.Device.{made, writeOf, hostOf, functionResetOf, happens}
+use Rattle.plain_device.specs.Device.{writeOf, hostOf, functionResetOf, happens}
+use Rattle.plain.specs.Plain.{made}
 use Rattle.plain_device.proofs.Bridge.{read-is, write-is, update-is, reset-is}
 use Rattle.sheet_lines.specs.declared.Meant.{Meant}
 use Rattle.sheet_lines.specs.declared.Meant.the-variants as M

@@ -2,7 +2,7 @@
 use mathlib.Core.Path.{_≡_, refl, _∙_}
 use mathlib.Core.List.{List, [], _∷_}
 use Prim.Native.Nat.{ℕ}
-use Rattle.rules.specs.Past.{ran}
+use Rattle.past.specs.Past.{ran}
 use Rattle.session.specs.Session.{after}
 use Rattle.plain_device.specs.declared.Tables.{Tables}
 use Rattle.plain_device.specs.declared.Event.{Event}

@@ -4,7 +4,7 @@ use mathlib.Core.List.{List, [], _∷_, _++_}
 use Prim.Native.Nat.{ℕ}
 use Rattle.bits.specs.Bits.{numberOf}
 use Rattle.bits.specs.Places.{from}
-use Rattle.rules.specs.Access.{enabled, byteFor}
+use Rattle.access.specs.Access.{enabled, byteFor}
 use Rattle.line_forms.specs.Ascii.{ascii}
 use Rattle.line_forms.specs.Hex.{upOf, hexOf}
 use Rattle.line_forms.specs.Read.{digitOf, hexFrom, fieldOf, columnsOf, numbersOf, asksOf, readBy}

@@ -26,13 +26,13 @@ fn window_step(s: State, e: WindowEvent) -> Stepped
             state: s,
         },
         WindowEvent::WindowWrite(o, l, v) => mmio::write(s, o, l, v),
-        WindowEvent::Complete(m) => mmio::complete(s, m),
-        WindowEvent::Fault(v) => mmio::fault(s, v),
+        WindowEvent::Complete(m) => mmio_host::complete(s, m),
+        WindowEvent::Fault(v) => mmio_host::fault(s, v),
         WindowEvent::AddCycles(n) => Stepped {
             answer: Answer::Done,
-            state: mmio::add_cycles(s, n),
+            state: mmio_host::add_cycles(s, n),
         },
-        WindowEvent::MirrorUpdate(o, m, v) => mmio::mirror_update(s, o, m, v),
+        WindowEvent::MirrorUpdate(o, m, v) => mmio_host::mirror_update(s, o, m, v),
     }
 }
 

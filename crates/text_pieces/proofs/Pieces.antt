@@ -18,6 +18,13 @@ take-length [] = refl
 take-length (x ∷ t) = ap {B = List ℕ} (λ (l : List ℕ). x ∷ l) (take-length t)
 
 -- pieces put one behind the other
+module _ (x0 x1 x2 a b : List ℕ) (p : x1 ≡ x0 ++ a) (q : x2 ≡ x1 ++ b) where
+  pub in-two : x2 ≡ x0 ++ (a ++ b)
+  in-two = q ∙ rw p (append-assoc x0 a b)
+
+  pub in-four : (x3 x4 c d : List ℕ) → x3 ≡ x2 ++ c → x4 ≡ x3 ++ d → x4 ≡ x0 ++ (a ++ (b ++ (c ++ d)))
+  in-four x3 x4 c d r s = s ∙ rw (r, in-two) (simp append-assoc)
+
 module _ (x0 x1 x2 x3 a b c : List ℕ) (p : x1 ≡ x0 ++ a) (q : x2 ≡ x1 ++ b) (r : x3 ≡ x2 ++ c) where
   pub in-three : x3 ≡ x0 ++ (a ++ (b ++ c))
   in-three = r ∙ rw (q, p) (simp append-assoc)

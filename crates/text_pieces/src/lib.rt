@@ -1,9 +1,10 @@
-// Pieces of text put at a place of a buffer: words, and numbers of two and of eight hex digits.
+// Pieces of text put at a place of a buffer: words, numbers of two and of eight hex digits, and both with LF.
 ghost use mathlib.Core.Path.{_≡_};
 ghost use mathlib.Core.List.{_++_};
 ghost use Prim.Native.Nat.{_+_, _%_, _≤_};
 ghost use lib.ListN.{length, take};
 ghost use Rattle.line_forms.specs.Hex.{upOf, hexOf};
+ghost use Rattle.text_pieces.specs.Pieces.{end};
 
 // The last digit of n in upper-case hex.
 pub fn digit(n: u32) -> u8
@@ -43,27 +44,51 @@ pub fn put2(out: &mut [u8], o: usize, v: u32) -> usize
     o + 2
 }
 
+// Four digits of v.
+fn put4(out: &mut [u8], o: usize, v: u32) -> usize
+    requires { ⌜ o + 4 ≤ length (now out) ⌝ }
+    ensures { λ r. ⌜ take r (now (out .exit)) ≡ take o (now (out .entry)) ++ hexOf 4 v ⌝ }
+    ensures { λ r. ⌜ (r ≡ o + 4) × (length (now (out .exit)) ≡ length (now (out .entry))) ⌝ }
+{
+    let a = digit(v / 4096);
+    let b = digit(v / 256);
+    let c = digit(v / 16);
+    let d = digit(v);
+    out[o] = a;
+    out[o + 1] = b;
+    out[o + 2] = c;
+    out[o + 3] = d;
+    o + 4
+}
+
 // Eight digits of v.
 pub fn put8(out: &mut [u8], o: usize, v: u32) -> usize
     requires { ⌜ o + 8 ≤ length (now out) ⌝ }
     ensures { λ r. ⌜ take r (now (out .exit)) ≡ take o (now (out .entry)) ++ hexOf 8 v ⌝ }
     ensures { λ r. ⌜ (r ≡ o + 8) × (length (now (out .exit)) ≡ length (now (out .entry))) ⌝ }
 {
-    let a = digit(v / 268435456);
-    let b = digit(v / 16777216);
-    let c = digit(v / 1048576);
-    let d = digit(v / 65536);
-    let e = digit(v / 4096);
-    let f = digit(v / 256);
-    let g = digit(v / 16);
-    let h = digit(v);
-    out[o] = a;
-    out[o + 1] = b;
-    out[o + 2] = c;
-    out[o + 3] = d;
-    out[o + 4] = e;
-    out[o + 5] = f;
-    out[o + 6] = g;
-    out[o + 7] = h;
-    o + 8
+    let p = put4(out, o, v / 65536);
+    put4(out, p, v)
+}
+
+// A text, two digits of x, LF.
+pub fn put_byte(out: &mut [u8], o: usize, t: &[u8], x: u32) -> usize
+    requires { ⌜ o + length (now t) + 3 ≤ length (now out) ⌝ }
+    ensures { λ r. ⌜ take r (now (out .exit)) ≡ take o (now (out .entry)) ++ (now (t .entry) ++ (hexOf 2 x ++ end)) ⌝ }
+    ensures { λ r. ⌜ (r ≡ o + length (now (t .entry)) + 3) × (length (now (out .exit)) ≡ length (now (out .entry))) ⌝ }
+{
+    let a = put(out, o, t);
+    let b = put2(out, a, x);
+    put(out, b, b"\n")
+}
+
+// A text, eight digits of x, LF.
+pub fn put_dword(out: &mut [u8], o: usize, t: &[u8], x: u32) -> usize
+    requires { ⌜ o + length (now t) + 9 ≤ length (now out) ⌝ }
+    ensures { λ r. ⌜ take r (now (out .exit)) ≡ take o (now (out .entry)) ++ (now (t .entry) ++ (hexOf 8 x ++ end)) ⌝ }
+    ensures { λ r. ⌜ (r ≡ o + length (now (t .entry)) + 9) × (length (now (out .exit)) ≡ length (now (out .entry))) ⌝ }
+{
+    let a = put(out, o, t);
+    let b = put8(out, a, x);
+    put(out, b, b"\n")
 }

@@ -4,14 +4,12 @@ use Prim.Native.Nat.{ℕ}
 use Rattle.bits.specs.Choice.{if_then_else_, _is_}
 use Rattle.rules.specs.Claims.{Claimed, unclaimed, claimed, Window, translation, aperture, io}
 use Rattle.probe.specs.Probe as P
-use Rattle.walk.specs.Walk as W
 use Rattle.text_answer.specs.Text.{noText, replyText}
 use Rattle.asked.specs.Asked.{Said, answer, claim, range, item}
 use Rattle.line_forms.specs.Ascii.{ascii}
 use Rattle.line_forms.specs.Hex.{hexOf}
-
-abbrev pub end : List ℕ
-end = ascii "\n"
+use Rattle.text_pieces.specs.Pieces.{end}
+use Rattle.text_walk.specs.Walk.{walkText}
 
 -- `OK NONE`
 abbrev pub noneText : List ℕ
@@ -38,27 +36,6 @@ kindText P.memory64 = ascii "OK MEM64 "
 -- a probe: the kind and the exponent, or `NO 8`
 abbrev pub probeText : P.Reply → List ℕ
 probeText r = if r .number is 0 then kindText (r .kind) ++ (hexOf 2 (r .exponent) ++ end) else noText (r .number)
-
--- `OK FOUND `, `OK ABSENT `, `NO 10 `, `NO 11 `
-abbrev pub foundText : List ℕ
-foundText = ascii "OK FOUND "
-
-abbrev pub absentText : List ℕ
-absentText = ascii "OK ABSENT "
-
-abbrev pub pointerText : List ℕ
-pointerText = ascii "NO 10 "
-
-abbrev pub endlessText : List ℕ
-endlessText = ascii "NO 11 "
-
--- a walk: the offset where it is found, and the count, the one exception to a refusal's zero
-abbrev pub walkText : W.Reply → List ℕ
-walkText r =
-    if r .number is 0 then (if r .found then foundText ++ (hexOf 2 (r .offset) ++ (ascii " " ++ (hexOf 2 (r .count) ++ end))) else absentText ++ (hexOf 2 (r .count) ++ end))
-    else if r .number is 10 then pointerText ++ (hexOf 2 (r .count) ++ end)
-    else if r .number is 11 then endlessText ++ (hexOf 2 (r .count) ++ end)
-    else noText (r .number)
 
 -- whatever is told
 unfoldable pub saidText : Said → List ℕ

@@ -11,22 +11,13 @@ use borrow.Author.Needs.{needs}
 use Rattle.claims.proofs.claim_memory.Statement.{statement}
 use Rattle.claims.proofs.claim_memory.Tie as tie
 
-element-copy-out-if1 : tie.Need-element-copy-out-if1
-element-copy-out-if1 c = search needs
-
 returns : tie.Need-returns
 unfolding memoryClaimOf
 returns c = search tests
 
-off-requires : tie.Need-off-requires
-off-requires c κs = search needs
-
 returns-2 : tie.Need-returns-2
 unfolding memoryClaimOf
 returns-2 c = search (tests, div-one, ← c .before .off .ensures, c .if2 .taken)
-
-memory-requires : tie.Need-memory-requires
-memory-requires c κs = search needs
 
 returns-3 : tie.Need-returns-3
 returns-3 c =
@@ -37,4 +28,4 @@ returns-3 c =
 pub claim-memory-spec : {M : Type 1} → statement M
 claim-memory-spec =
     tie.close
-    (tie.spec element-copy-out-if1 returns off-requires returns-2 memory-requires returns-3)
+    (tie.spec (λ c. search needs) returns (λ c κs. search needs) returns-2 (λ c κs. search needs) returns-3)

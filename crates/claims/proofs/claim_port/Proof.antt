@@ -11,22 +11,13 @@ use borrow.Author.Needs.{needs}
 use Rattle.claims.proofs.claim_port.Statement.{statement}
 use Rattle.claims.proofs.claim_port.Tie as tie
 
-element-copy-out-if1 : tie.Need-element-copy-out-if1
-element-copy-out-if1 c = search needs
-
 returns : tie.Need-returns
 unfolding ioClaimOf
 returns c = search (tests, div-one)
 
-off-requires : tie.Need-off-requires
-off-requires c κs = search needs
-
 returns-2 : tie.Need-returns-2
 unfolding ioClaimOf
 returns-2 c = search (tests, div-one, ← c .before .off .ensures, c .if2 .taken)
-
-io-requires : tie.Need-io-requires
-io-requires c κs = search needs
 
 returns-3 : tie.Need-returns-3
 returns-3 c =
@@ -36,4 +27,4 @@ returns-3 c =
 
 pub claim-port-spec : {M : Type 1} → statement M
 claim-port-spec =
-    tie.close (tie.spec element-copy-out-if1 returns off-requires returns-2 io-requires returns-3)
+    tie.close (tie.spec (λ c. search needs) returns (λ c κs. search needs) returns-2 (λ c κs. search needs) returns-3)

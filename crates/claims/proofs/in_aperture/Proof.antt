@@ -4,12 +4,6 @@ use borrow.Author.Needs.{needs}
 use Rattle.claims.proofs.in_aperture.Statement.{statement}
 use Rattle.claims.proofs.in_aperture.Tie as tie
 
-holds-requires : tie.Need-holds-requires
-holds-requires c κs = search needs
-
-offset-requires : tie.Need-offset-requires
-offset-requires c κs = search needs
-
 returns : tie.Need-returns
 unfolding inAperture
 returns c = search (← c .before .before .holds .ensures, c .before .if1 .taken, c .offset .ensures)
@@ -19,4 +13,4 @@ unfolding inAperture
 returns-2 c = search (← c .before .holds .ensures, c .if1 .left)
 
 pub in-aperture-spec : {M : Type 1} → statement M
-in-aperture-spec = tie.close (tie.spec holds-requires offset-requires returns returns-2)
+in-aperture-spec = tie.close (tie.spec (λ c κs. search needs) (λ c κs. search needs) returns returns-2)

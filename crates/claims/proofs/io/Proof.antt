@@ -4,18 +4,6 @@ use borrow.Author.Needs.{needs}
 use Rattle.claims.proofs.io.Statement.{statement}
 use Rattle.claims.proofs.io.Tie as tie
 
-dword-requires : tie.Need-dword-requires
-dword-requires c κs = search needs
-
-cast-holds : tie.Need-cast-holds
-cast-holds c = search needs
-
-holds-requires : tie.Need-holds-requires
-holds-requires c κs = search needs
-
-offset-requires : tie.Need-offset-requires
-offset-requires c κs = search needs
-
 returns : tie.Need-returns
 unfolding ioOf
 returns c = search (← c .before .before .before .dword .ensures, ← c .before .before .holds .ensures, c .before .if1 .taken, c .offset .ensures)
@@ -26,4 +14,4 @@ returns-2 c = search (← c .before .before .dword .ensures, ← c .before .hold
 
 pub io-spec : {M : Type 1} → statement M
 io-spec =
-    tie.close (tie.spec dword-requires cast-holds holds-requires offset-requires returns returns-2)
+    tie.close (tie.spec (λ c κs. search needs) (λ c. search needs) (λ c κs. search needs) (λ c κs. search needs) returns returns-2)

@@ -20,9 +20,6 @@ abbrev μ-loop : tie.MeasureT-loop
 loop-holds : tie.Need-loop-holds Inv-loop μ-loop
 loop-holds c = (omega arith, omega arith, refl, refl)
 
-line-end-requires : tie.Need-line-end-requires Inv-loop μ-loop
-line-end-requires c κs = search needs
-
 same-length : tie.Need-same-length Inv-loop μ-loop
 same-length c = omega arith
 
@@ -30,24 +27,6 @@ returns : tie.Need-returns Inv-loop μ-loop
 returns c =
     let d = c .before .before .before .loop in
     (ends lineNext lineSay (c .before .before .before .before .before .before .args .t .now) (d .g) (d .a) _ (take (d .o) (d .out)) (omega (arith, c .before .line-end .ensures .0, c .if1 .taken)) (d .inv .3), ((omega arith, omega arith), omega arith))
-
-sub-l : tie.Need-sub-l Inv-loop μ-loop
-sub-l c = search needs
-
-part-l-start : tie.Need-part-l-start Inv-loop μ-loop
-part-l-start c = search needs
-
-part-l-end : tie.Need-part-l-end Inv-loop μ-loop
-part-l-end c = search needs
-
-reply-requires : tie.Need-reply-requires Inv-loop μ-loop
-reply-requires c κs = search needs
-
-add-a : tie.Need-add-a Inv-loop μ-loop
-add-a c = search needs
-
-loop-less : tie.Need-loop-less Inv-loop μ-loop
-loop-less c = search needs
 
 loop-again : tie.Need-loop-again Inv-loop μ-loop
 loop-again c =
@@ -69,15 +48,15 @@ talk-spec =
     Inv-loop
     μ-loop
     loop-holds
-    line-end-requires
+    (λ c κs. search needs)
     same-length
     returns
-    sub-l
-    part-l-start
-    part-l-end
-    reply-requires
-    add-a
-    loop-less
+    (λ c. search needs)
+    (λ c. search needs)
+    (λ c. search needs)
+    (λ c κs. search needs)
+    (λ c. search needs)
+    (λ c. search needs)
     loop-again
     same-length-2
     returns-2)

@@ -9,12 +9,9 @@ returns : tie.Need-returns
 unfolding endBytes endFlags
 returns c = search tests
 
-reset-requires : tie.Need-reset-requires
-reset-requires c κs = search needs
-
 returns-2 : tie.Need-returns-2
 unfolding endBytes endFlags
 returns-2 c = search (tests, c .reset .ensures)
 
 pub end-spec : {M : Type 1} → statement M
-end-spec = tie.close (tie.spec returns reset-requires returns-2)
+end-spec = tie.close (tie.spec returns (λ c κs. search needs) returns-2)

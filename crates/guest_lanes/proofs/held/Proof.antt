@@ -5,29 +5,14 @@ use borrow.Author.Needs.{needs}
 use Rattle.guest_lanes.proofs.held.Statement.{statement}
 use Rattle.guest_lanes.proofs.held.Tie as tie
 
-taken-requires : tie.Need-taken-requires
-taken-requires c κs = search needs
-
 returns : tie.Need-returns
 returns c = search (tests, helds)
-
-if-closed-requires : tie.Need-if-closed-requires
-if-closed-requires c κs = search needs
 
 returns-2 : tie.Need-returns-2
 returns-2 c = search (tests, helds)
 
-if-closed-requires-2 : tie.Need-if-closed-requires-2
-if-closed-requires-2 c κs = search needs
-
 returns-3 : tie.Need-returns-3
 returns-3 c = search (tests, helds)
-
-add-if4 : tie.Need-add-if4
-add-if4 c = search needs
-
-if-closed-requires-3 : tie.Need-if-closed-requires-3
-if-closed-requires-3 c κs = search needs
 
 returns-4 : tie.Need-returns-4
 returns-4 c = search (tests, helds)
@@ -54,14 +39,14 @@ pub held-spec : {M : Type 1} → statement M
 held-spec =
     tie.close
     (tie.spec
-    taken-requires
+    (λ c κs. search needs)
     returns
-    if-closed-requires
+    (λ c κs. search needs)
     returns-2
-    if-closed-requires-2
+    (λ c κs. search needs)
     returns-3
-    add-if4
-    if-closed-requires-3
+    (λ c. search needs)
+    (λ c κs. search needs)
     returns-4
     returns-5
     returns-6

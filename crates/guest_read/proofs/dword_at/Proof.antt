@@ -9,12 +9,9 @@ returns : tie.Need-returns
 unfolding readDword
 returns c = search tests
 
-shown-dword-requires : tie.Need-shown-dword-requires
-shown-dword-requires c κs = search needs
-
 returns-2 : tie.Need-returns-2
 unfolding readDword
 returns-2 c = search (tests, c .shown-dword .ensures)
 
 pub dword-at-spec : {M : Type 1} → statement M
-dword-at-spec = tie.close (tie.spec returns shown-dword-requires returns-2)
+dword-at-spec = tie.close (tie.spec returns (λ c κs. search needs) returns-2)

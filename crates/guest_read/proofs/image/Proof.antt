@@ -9,12 +9,9 @@ returns : tie.Need-returns
 unfolding imageBytes
 returns c = search tests
 
-shown-image-requires : tie.Need-shown-image-requires
-shown-image-requires c κs = search needs
-
 returns-2 : tie.Need-returns-2
 unfolding imageBytes
 returns-2 c = search (tests, c .shown-image .ensures)
 
 pub image-spec : {M : Type 1} → statement M
-image-spec = tie.close (tie.spec returns shown-image-requires returns-2)
+image-spec = tie.close (tie.spec returns (λ c κs. search needs) returns-2)

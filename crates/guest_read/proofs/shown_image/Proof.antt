@@ -4,15 +4,9 @@ use borrow.Author.Needs.{needs}
 use Rattle.guest_read.proofs.shown_image.Statement.{statement}
 use Rattle.guest_read.proofs.shown_image.Tie as tie
 
-shown-requires : tie.Need-shown-requires
-shown-requires c κs = search needs
-
-array-write-t : tie.Need-array-write-t
-array-write-t c = search needs
-
 returns : tie.Need-returns
 unfolding shownBytes
 returns c = cc
 
 pub shown-image-spec : {M : Type 1} → statement M
-shown-image-spec = tie.close (tie.spec shown-requires array-write-t returns)
+shown-image-spec = tie.close (tie.spec (λ c κs. search needs) (λ c. search needs) returns)

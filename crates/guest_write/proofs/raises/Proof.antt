@@ -8,20 +8,8 @@ use borrow.Author.Needs.{needs}
 use Rattle.guest_write.proofs.raises.Statement.{statement}
 use Rattle.guest_write.proofs.raises.Tie as tie
 
-raise-requires : tie.Need-raise-requires
-raise-requires c κs = search needs
-
-raise-requires-2 : tie.Need-raise-requires-2
-raise-requires-2 c κs = search needs
-
-raise-requires-3 : tie.Need-raise-requires-3
-raise-requires-3 c κs = search needs
-
 mul-raise : tie.Need-mul-raise
 mul-raise c = let a = c .before .before .before .args in omega (arith, product<2 (a .lanes % 2) (a .value % 2) (omega arith) (omega arith))
-
-raise-requires-4 : tie.Need-raise-requires-4
-raise-requires-4 c κs = search needs
 
 returns : tie.Need-returns
 unfolding flagsAfter
@@ -34,4 +22,4 @@ returns c =
 pub raises-spec : {M : Type 1} → statement M
 raises-spec =
     tie.close
-    (tie.spec raise-requires raise-requires-2 raise-requires-3 mul-raise raise-requires-4 returns)
+    (tie.spec (λ c κs. search needs) (λ c κs. search needs) (λ c κs. search needs) mul-raise (λ c κs. search needs) returns)

@@ -1,7 +1,7 @@
 -- A guest write over lent bytes: refused as an access is, else what an accepted one leaves.
 use mathlib.Core.Path.{_≡_, sym, ap, _∙_}
-use Rattle.rules.specs.Access.{admits}
-use Rattle.rules.proofs.Access.{direct-is}
+use Rattle.access.specs.Access.{admits}
+use Rattle.access.proofs.Access.{direct-is}
 use Rattle.guest_write.proofs.Entry.{write-refused, write-made}
 use borrow.Author.Needs.{needs}
 use Rattle.guest_write.proofs.write.Statement.{statement}

@@ -10,20 +10,11 @@ returns : tie.Need-returns
 unfolding updateBytes
 returns c = rw (lt-ltb 255 (c .before .args .offset) (omega arith))
 
-element-copy-out-blend : tie.Need-element-copy-out-blend
-element-copy-out-blend c = search needs
-
-blend-requires : tie.Need-blend-requires
-blend-requires c κs = search needs
-
 returns-2 : tie.Need-returns-2
 unfolding updateBytes
 returns-2 c =
     let a = c .before .before .before .before .args in
     rw (le-ltb 255 (a .offset) (omega arith), ne-eqb (outside (a .host .now) (a .offset) (a .mask)) 0 (λ e. omega arith))
-
-put-host-requires : tie.Need-put-host-requires
-put-host-requires c κs = search needs
 
 returns-3 : tie.Need-returns-3
 unfolding updateBytes
@@ -34,4 +25,4 @@ returns-3 c =
 pub host-update-spec : {M : Type 1} → statement M
 host-update-spec =
     tie.close
-    (tie.spec returns element-copy-out-blend blend-requires returns-2 put-host-requires returns-3)
+    (tie.spec returns (λ c. search needs) (λ c κs. search needs) returns-2 (λ c κs. search needs) returns-3)

@@ -1,4 +1,4 @@
--- `library::twin_platform_reset` meets its contract: a walk of its MIR, by hand. `twin::fresh` is called, the borrow is opened, its state is stored, and the borrow is closed at it.
+-- `lent::twin_platform_reset` meets its contract: a walk of its MIR, by hand. `twin::fresh` is called, the borrow is opened, its state is stored, and the borrow is closed at it.
 -- Assumes nothing.
 use mathlib.Core.Path.{_≡_, refl}
 use Prim.Native.Nat.{ℕ}

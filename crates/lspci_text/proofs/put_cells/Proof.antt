@@ -1,12 +1,13 @@
 -- Sixteen bytes, one after the other.
-use mathlib.Core.Path.{_≡_, refl, _∙_}
+use mathlib.Core.Path.{_≡_, refl}
 use mathlib.Core.List.{_++_}
 use Prim.Native.Nat.{_+_, _-_, _*_, _≤_}
 use native.Mathlib.Omega.{arith}
 use lib.ListN.{length, take}
 use borrow.Author.Needs.{needs}
 use Rattle.lspci_text.specs.Dump.{joinFrom, cellText}
-use Rattle.lspci_text.proofs.Joined.{in-two, join-next, none-joined}
+use Rattle.text_pieces.proofs.Pieces.{in-two}
+use Rattle.lspci_text.proofs.Joined.{join-next, none-joined}
 use Rattle.lspci_text.proofs.put_cells.Statement.{statement}
 use Rattle.lspci_text.proofs.put_cells.Tie as tie
 
@@ -22,27 +23,6 @@ loop-holds c =
     let a = c .before .args in
     (omega arith, omega arith, refl, none-joined (take (a .o) (a .out .now)) (cellText (a .b .now)) (a .at))
 
-slice-aggregate-put : tie.Need-slice-aggregate-put Inv-loop μ-loop
-slice-aggregate-put c = search needs
-
-put-requires : tie.Need-put-requires Inv-loop μ-loop
-put-requires c κs = search needs
-
-add-put-pair : tie.Need-add-put-pair Inv-loop μ-loop
-add-put-pair c = search needs
-
-element-copy-out-put-pair : tie.Need-element-copy-out-put-pair Inv-loop μ-loop
-element-copy-out-put-pair c = search needs
-
-put-pair-requires : tie.Need-put-pair-requires Inv-loop μ-loop
-put-pair-requires c κs = search needs
-
-add-i : tie.Need-add-i Inv-loop μ-loop
-add-i c = search needs
-
-loop-less : tie.Need-loop-less Inv-loop μ-loop
-loop-less c = search needs
-
 loop-again : tie.Need-loop-again Inv-loop μ-loop
 unfolding cellText
 loop-again c =
@@ -51,9 +31,6 @@ loop-again c =
     let space = c .before .before .before .before .before .before .before .put in
     let pair = c .before .before .put-pair in
     (omega arith, omega arith, omega arith, join-next (take (a .o) (a .out .now)) (take (d .loop .p) (d .loop .out)) _ (cellText (a .b .now)) (d .loop .i) (a .at) (a .at + d .loop .i) refl (d .loop .inv .3) (in-two (take (d .loop .p) (d .loop .out)) _ _ _ _ (space .ensures .0) (pair .ensures .0)))
-
-same-length : tie.Need-same-length Inv-loop μ-loop
-same-length c = search needs
 
 returns : tie.Need-returns Inv-loop μ-loop
 returns c =
@@ -68,13 +45,13 @@ put-cells-spec =
     Inv-loop
     μ-loop
     loop-holds
-    slice-aggregate-put
-    put-requires
-    add-put-pair
-    element-copy-out-put-pair
-    put-pair-requires
-    add-i
-    loop-less
+    (λ c. search needs)
+    (λ c κs. search needs)
+    (λ c. search needs)
+    (λ c. search needs)
+    (λ c κs. search needs)
+    (λ c. search needs)
+    (λ c. search needs)
     loop-again
-    same-length
+    (λ c. search needs)
     returns)

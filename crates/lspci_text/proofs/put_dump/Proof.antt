@@ -3,7 +3,7 @@ use mathlib.Core.List.{[]}
 use native.Mathlib.Omega.{arith}
 use borrow.Author.Needs.{needs}
 use Rattle.lspci_text.specs.Dump.{dumpText}
-use Rattle.lspci_text.proofs.Joined.{in-four}
+use Rattle.text_pieces.proofs.Pieces.{in-four}
 use Rattle.lspci_text.proofs.put_dump.Statement.{statement}
 use Rattle.lspci_text.proofs.put_dump.Tie as tie
 

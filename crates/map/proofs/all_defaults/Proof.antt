@@ -1,6 +1,7 @@
 -- The code's defaults are the rows': antt computes them and compares.
 use mathlib.Core.Path.{refl}
-use Rattle.map.specs.Map.{rows, rowAt, defaults}
+use Rattle.any_map.specs.Map.{rowAt, defaults}
+use Rattle.map.specs.Map.{rows}
 use Rattle.map.proofs.all_defaults.Statement.{statement}
 use Rattle.map.proofs.all_defaults.Tie as tie
 

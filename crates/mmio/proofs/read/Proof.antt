@@ -1,6 +1,6 @@
 -- A guest read in the window.
 use mathlib.Core.Path.{_≡_, sym, ap, _∙_}
-use Rattle.rules.specs.Access.{admits}
+use Rattle.access.specs.Access.{admits}
 use Rattle.mmio.proofs.Entry.{read-refused, read-made}
 use borrow.Author.Needs.{needs}
 use Rattle.mmio.proofs.read.Statement.{statement}

@@ -4,15 +4,9 @@ use borrow.Author.Needs.{needs}
 use Rattle.plain.proofs.lane.Statement.{statement}
 use Rattle.plain.proofs.lane.Tie as tie
 
-if-enabled-requires : tie.Need-if-enabled-requires
-if-enabled-requires c κs = search needs
-
-blend-requires : tie.Need-blend-requires
-blend-requires c κs = search needs
-
 returns : tie.Need-returns
 unfolding laneOf
 returns c = cc
 
 pub lane-spec : {M : Type 1} → statement M
-lane-spec = tie.close (tie.spec if-enabled-requires blend-requires returns)
+lane-spec = tie.close (tie.spec (λ c κs. search needs) (λ c κs. search needs) returns)

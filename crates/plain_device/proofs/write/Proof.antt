@@ -9,9 +9,6 @@ use borrow.Author.Needs.{needs}
 use Rattle.plain_device.proofs.write.Statement.{statement}
 use Rattle.plain_device.proofs.write.Tie as tie
 
-write-in-requires : tie.Need-write-in-requires
-write-in-requires c κs = search needs
-
 returns : tie.Need-returns
 returns c =
     let a = c .before .before .args in
@@ -20,4 +17,4 @@ returns c =
     c .write-in .ensures ∙ write-is (a .s .bytes) (λ i. fits i .fits) n (a .guests .now) (a .offset) (a .lanes) (a .value)
 
 pub write-spec : {M : Type 1} → statement M
-write-spec = tie.close (tie.spec write-in-requires returns)
+write-spec = tie.close (tie.spec (λ c κs. search needs) returns)

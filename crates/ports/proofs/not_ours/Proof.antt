@@ -6,17 +6,11 @@ use borrow.Author.Needs.{needs}
 use Rattle.ports.proofs.not_ours.Statement.{statement}
 use Rattle.ports.proofs.not_ours.Tie as tie
 
-at-latch-requires : tie.Need-at-latch-requires
-at-latch-requires c κs = search needs
-
 returns : tie.Need-returns
 unfolding notOurs
 returns c =
     let e = sym (c .before .at-latch .ensures) ∙ c .if1 .taken in
     rw e
-
-at-data-requires : tie.Need-at-data-requires
-at-data-requires c κs = search needs
 
 returns-2 : tie.Need-returns-2
 unfolding notOurs
@@ -41,4 +35,4 @@ returns-4 c =
 
 pub not-ours-spec : {M : Type 1} → statement M
 not-ours-spec =
-    tie.close (tie.spec at-latch-requires returns at-data-requires returns-2 returns-3 returns-4)
+    tie.close (tie.spec (λ c κs. search needs) returns (λ c κs. search needs) returns-2 returns-3 returns-4)

@@ -11,42 +11,21 @@ use borrow.Author.Needs.{needs}
 use Rattle.ports.proofs.port_read.Statement.{statement}
 use Rattle.ports.proofs.port_read.Tie as tie
 
-bad-width-requires : tie.Need-bad-width-requires
-bad-width-requires c κs = search needs
-
 returns : tie.Need-returns
 unfolding portReadOf
 returns c = rw (sym (c .before .bad-width .ensures) ∙ c .if1 .taken)
-
-not-ours-requires : tie.Need-not-ours-requires
-not-ours-requires c κs = search needs
 
 returns-2 : tie.Need-returns-2
 unfolding portReadOf
 returns-2 c = rw (sym (c .before .before .before .bad-width .ensures) ∙ c .before .before .if1 .left, sym (c .before .not-ours .ensures) ∙ c .if2 .taken)
 
-at-latch-requires : tie.Need-at-latch-requires
-at-latch-requires c κs = search needs
-
 returns-3 : tie.Need-returns-3
 unfolding portReadOf
 returns-3 c = rw (sym (c .before .before .before .before .before .bad-width .ensures) ∙ c .before .before .before .before .if1 .left, sym (c .before .before .before .not-ours .ensures) ∙ c .before .before .if2 .left, sym (c .before .at-latch .ensures) ∙ c .if3 .taken)
 
-other-function-requires : tie.Need-other-function-requires
-other-function-requires c κs = search needs
-
 returns-4 : tie.Need-returns-4
 unfolding portReadOf
 returns-4 c = rw (sym (c .before .before .before .before .before .before .before .bad-width .ensures) ∙ c .before .before .before .before .before .before .if1 .left, sym (c .before .before .before .before .before .not-ours .ensures) ∙ c .before .before .before .before .if2 .left, sym (c .before .before .before .at-latch .ensures) ∙ c .before .before .if3 .left, sym (c .before .other-function .ensures) ∙ c .if4 .taken)
-
-cast-dword : tie.Need-cast-dword
-cast-dword c = search needs
-
-dword-requires : tie.Need-dword-requires
-dword-requires c κs = search needs
-
-cast-part : tie.Need-cast-part
-cast-part c = search needs
 
 part-requires : tie.Need-part-requires
 part-requires c κs =
@@ -71,16 +50,16 @@ pub port-read-spec : {M : Type 1} → statement M
 port-read-spec =
     tie.close
     (tie.spec
-    bad-width-requires
+    (λ c κs. search needs)
     returns
-    not-ours-requires
+    (λ c κs. search needs)
     returns-2
-    at-latch-requires
+    (λ c κs. search needs)
     returns-3
-    other-function-requires
+    (λ c κs. search needs)
     returns-4
-    cast-dword
-    dword-requires
-    cast-part
+    (λ c. search needs)
+    (λ c κs. search needs)
+    (λ c. search needs)
     part-requires
     returns-5)

@@ -7,42 +7,21 @@ use borrow.Author.Needs.{needs}
 use Rattle.ports.proofs.port_write.Statement.{statement}
 use Rattle.ports.proofs.port_write.Tie as tie
 
-bad-width-requires : tie.Need-bad-width-requires
-bad-width-requires c κs = search needs
-
 returns : tie.Need-returns
 unfolding portWriteOf
 returns c = rw (sym (c .before .bad-width .ensures) ∙ c .if1 .taken)
-
-not-ours-requires : tie.Need-not-ours-requires
-not-ours-requires c κs = search needs
 
 returns-2 : tie.Need-returns-2
 unfolding portWriteOf
 returns-2 c = rw (sym (c .before .before .before .bad-width .ensures) ∙ c .before .before .if1 .left, sym (c .before .not-ours .ensures) ∙ c .if2 .taken)
 
-at-latch-requires : tie.Need-at-latch-requires
-at-latch-requires c κs = search needs
-
-latched-requires : tie.Need-latched-requires
-latched-requires c κs = search needs
-
 returns-3 : tie.Need-returns-3
 unfolding portWriteOf
 returns-3 c = rw (sym (c .before .before .before .before .before .before .bad-width .ensures) ∙ c .before .before .before .before .before .if1 .left, sym (c .before .before .before .before .not-ours .ensures) ∙ c .before .before .before .if2 .left, sym (c .before .before .at-latch .ensures) ∙ c .before .if3 .taken, c .latched .ensures)
 
-other-function-requires : tie.Need-other-function-requires
-other-function-requires c κs = search needs
-
 returns-4 : tie.Need-returns-4
 unfolding portWriteOf
 returns-4 c = rw (sym (c .before .before .before .before .before .before .before .bad-width .ensures) ∙ c .before .before .before .before .before .before .if1 .left, sym (c .before .before .before .before .before .not-ours .ensures) ∙ c .before .before .before .before .if2 .left, sym (c .before .before .before .at-latch .ensures) ∙ c .before .before .if3 .left, sym (c .before .other-function .ensures) ∙ c .if4 .taken)
-
-cast-a : tie.Need-cast-a
-cast-a c = search needs
-
-mul-write : tie.Need-mul-write
-mul-write c = search needs
 
 lanes-requires : tie.Need-lanes-requires
 lanes-requires c κs =
@@ -55,9 +34,6 @@ place-requires c κs =
     let a = c .before .before .before .before .before .before .before .before .before .args in
     let d = data-access (a .s .latch) (a .port) (a .width) (sym (c .before .before .before .before .before .before .before .before .bad-width .ensures) ∙ c .before .before .before .before .before .before .before .if1 .left) (sym (c .before .before .before .before .before .before .not-ours .ensures) ∙ c .before .before .before .before .before .if2 .left) (sym (c .before .before .before .before .at-latch .ensures) ∙ c .before .before .before .if3 .left) in
     (d .width, d .room)
-
-write-requires : tie.Need-write-requires
-write-requires c κs = search needs
 
 returns-5 : tie.Need-returns-5
 unfolding portWriteOf
@@ -76,18 +52,18 @@ pub port-write-spec : {M : Type 1} → statement M
 port-write-spec =
     tie.close
     (tie.spec
-    bad-width-requires
+    (λ c κs. search needs)
     returns
-    not-ours-requires
+    (λ c κs. search needs)
     returns-2
-    at-latch-requires
-    latched-requires
+    (λ c κs. search needs)
+    (λ c κs. search needs)
     returns-3
-    other-function-requires
+    (λ c κs. search needs)
     returns-4
-    cast-a
-    mul-write
+    (λ c. search needs)
+    (λ c. search needs)
     lanes-requires
     place-requires
-    write-requires
+    (λ c κs. search needs)
     returns-5)

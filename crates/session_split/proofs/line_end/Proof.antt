@@ -18,26 +18,11 @@ abbrev μ-loop : tie.MeasureT-loop
 loop-holds : tie.Need-loop-holds Inv-loop μ-loop
 loop-holds c = (c .skip .ensures .1, c .skip .ensures .2, c .skip .ensures .0)
 
-shared-slice-read-if2 : tie.Need-shared-slice-read-if2 Inv-loop μ-loop
-shared-slice-read-if2 c = search needs
-
 returns : tie.Need-returns Inv-loop μ-loop
 returns c = (omega (arith, run-here (c .before .before .before .before .args .s .now) (c .before .before .before .before .args .a) (c .before .before .if1 .taken) (c .if2 .taken)), omega arith)
 
-skip-requires : tie.Need-skip-requires Inv-loop μ-loop
-skip-requires c κs = search needs
-
-shared-slice-read-if3 : tie.Need-shared-slice-read-if3 Inv-loop μ-loop
-shared-slice-read-if3 c = search needs
-
 returns-2 : tie.Need-returns-2 Inv-loop μ-loop
 returns-2 c = (omega (arith, c .before .before .before .loop .inv .2, run-here (c .before .before .before .before .before .before .before .args .s .now) (c .before .before .before .loop .i) (c .before .before .loop-test .taken) (c .if3 .taken)), omega arith)
-
-add-i : tie.Need-add-i Inv-loop μ-loop
-add-i c = search needs
-
-loop-less : tie.Need-loop-less Inv-loop μ-loop
-loop-less c = search needs
 
 loop-again : tie.Need-loop-again Inv-loop μ-loop
 loop-again c = (omega arith, omega arith, omega (arith, c .before .before .before .loop .inv .2, run-on (c .before .before .before .before .before .before .before .args .s .now) (c .before .before .before .loop .i) (c .before .before .loop-test .taken) (c .if3 .left)))
@@ -51,13 +36,13 @@ line-end-spec =
     (tie.spec
     Inv-loop
     μ-loop
-    shared-slice-read-if2
+    (λ c. search needs)
     returns
-    skip-requires
+    (λ c κs. search needs)
     loop-holds
-    shared-slice-read-if3
+    (λ c. search needs)
     returns-2
-    add-i
-    loop-less
+    (λ c. search needs)
+    (λ c. search needs)
     loop-again
     returns-3)

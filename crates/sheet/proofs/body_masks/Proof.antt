@@ -24,42 +24,6 @@ loop-holds : tie.Need-loop-holds Inv-loop μ-loop
 unfolding bodyIs
 loop-holds c = let b = c .before .args .b .now in (omega arith, refl, first-start isGood Good (masksAt b) (length b / 4))
 
-add-byte-masks : tie.Need-add-byte-masks Inv-loop μ-loop
-add-byte-masks c = search needs
-
-shared-slice-read-byte-masks : tie.Need-shared-slice-read-byte-masks Inv-loop μ-loop
-shared-slice-read-byte-masks c = search needs
-
-mul-byte-masks : tie.Need-mul-byte-masks Inv-loop μ-loop
-mul-byte-masks c = search needs
-
-add-byte-masks-2 : tie.Need-add-byte-masks-2 Inv-loop μ-loop
-add-byte-masks-2 c = search needs
-
-shared-slice-read-byte-masks-2 : tie.Need-shared-slice-read-byte-masks-2 Inv-loop μ-loop
-shared-slice-read-byte-masks-2 c = search needs
-
-mul-byte-masks-2 : tie.Need-mul-byte-masks-2 Inv-loop μ-loop
-mul-byte-masks-2 c = search needs
-
-add-byte-masks-3 : tie.Need-add-byte-masks-3 Inv-loop μ-loop
-add-byte-masks-3 c = search needs
-
-shared-slice-read-byte-masks-3 : tie.Need-shared-slice-read-byte-masks-3 Inv-loop μ-loop
-shared-slice-read-byte-masks-3 c = search needs
-
-byte-masks-requires : tie.Need-byte-masks-requires Inv-loop μ-loop
-byte-masks-requires c κs = search needs
-
-good-requires : tie.Need-good-requires Inv-loop μ-loop
-good-requires c κs = search needs
-
-add-t : tie.Need-add-t Inv-loop μ-loop
-add-t c = search needs
-
-loop-less : tie.Need-loop-less Inv-loop μ-loop
-loop-less c = search needs
-
 loop-again : tie.Need-loop-again Inv-loop μ-loop
 loop-again c =
     let d = c .before .before .before .before .before .before .before in
@@ -93,18 +57,18 @@ body-masks-spec =
     Inv-loop
     μ-loop
     loop-holds
-    add-byte-masks
-    shared-slice-read-byte-masks
-    mul-byte-masks
-    add-byte-masks-2
-    shared-slice-read-byte-masks-2
-    mul-byte-masks-2
-    add-byte-masks-3
-    shared-slice-read-byte-masks-3
-    byte-masks-requires
-    good-requires
-    add-t
-    loop-less
+    (λ c. search needs)
+    (λ c. search needs)
+    (λ c. search needs)
+    (λ c. search needs)
+    (λ c. search needs)
+    (λ c. search needs)
+    (λ c. search needs)
+    (λ c. search needs)
+    (λ c κs. search needs)
+    (λ c κs. search needs)
+    (λ c. search needs)
+    (λ c. search needs)
     loop-again
     returns
     returns-2)

@@ -19,9 +19,6 @@ returns c =
     let s = a .s .now in
     rw (eq-eqb (length s) 0 (omega arith))
 
-count-requires : tie.Need-count-requires
-count-requires c κs = search needs
-
 returns-2 : tie.Need-returns-2
 unfolding checkOf
 returns-2 c =
@@ -38,12 +35,6 @@ returns-3 c =
     let n = c .before .before .count .ensures .0 in
     rw (ne-eqb (length s) 0 (λ e. omega arith), le-leb 1 (entries s) (omega (arith, n)), lt-leb (entries s) 64 (omega (arith, n)))
 
-mul-if4 : tie.Need-mul-if4
-mul-if4 c = search needs
-
-add-if4 : tie.Need-add-if4
-add-if4 c = search needs
-
 returns-4 : tie.Need-returns-4
 unfolding checkOf
 returns-4 c =
@@ -51,12 +42,6 @@ returns-4 c =
     let s = a .s .now in
     let n = c .before .before .before .count .ensures .0 in
     rw (ne-eqb (length s) 0 (λ e. omega arith), le-leb 1 (entries s) (omega (arith, n)), le-leb (entries s) 64 (omega (arith, n)), lt-ltb (length s) (contents s) (omega (arith, n)))
-
-walk-entries-requires : tie.Need-walk-entries-requires
-walk-entries-requires c κs = search needs
-
-good-requires : tie.Need-good-requires
-good-requires c κs = search needs
 
 returns-5 : tie.Need-returns-5
 returns-5 c =
@@ -68,9 +53,6 @@ returns-5 c =
     let fine : accepts (firstOf (entryOf s) (entries s)) ≡ true = ap accepts (sym walked) ∙ sym (c .before .before .before .good2 .ensures) ∙ c .before .before .if5 .taken in
     let place : c .before .before .before .before .walk-entries .result .place ≡ belongs s (entries s) = rw n at (c .before .before .before .before .walk-entries .ensures .1 (rw walked fine)) in
     sym (rest ∙ ends-total s (firstOf (entryOf s) (entries s)) (firstOf (bodyAnswer s) (entries s)) fine (λ e. omega (arith, place)))
-
-walk-bodies-requires : tie.Need-walk-bodies-requires
-walk-bodies-requires c κs = search needs
 
 returns-6 : tie.Need-returns-6
 returns-6 c =
@@ -100,15 +82,15 @@ check-spec =
     tie.close
     (tie.spec
     returns
-    count-requires
+    (λ c κs. search needs)
     returns-2
     returns-3
-    mul-if4
-    add-if4
+    (λ c. search needs)
+    (λ c. search needs)
     returns-4
-    walk-entries-requires
-    good-requires
+    (λ c κs. search needs)
+    (λ c κs. search needs)
     returns-5
-    walk-bodies-requires
+    (λ c κs. search needs)
     returns-6
     returns-7)

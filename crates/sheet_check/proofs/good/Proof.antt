@@ -4,12 +4,9 @@ use borrow.Author.Needs.{needs}
 use Rattle.sheet_check.proofs.good.Statement.{statement}
 use Rattle.sheet_check.proofs.good.Tie as tie
 
-number-requires : tie.Need-number-requires
-number-requires c κs = search needs
-
 returns : tie.Need-returns
 unfolding accepts
 returns c = rw (c .number .ensures)
 
 pub good-spec : {M : Type 1} → statement M
-good-spec = tie.close (tie.spec number-requires returns)
+good-spec = tie.close (tie.spec (λ c κs. search needs) returns)

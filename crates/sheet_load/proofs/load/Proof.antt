@@ -11,12 +11,6 @@ use borrow.Author.Needs.{needs}
 use Rattle.sheet_load.proofs.load.Statement.{statement}
 use Rattle.sheet_load.proofs.load.Tie as tie
 
-check-requires : tie.Need-check-requires
-check-requires c κs = search needs
-
-good-requires : tie.Need-good-requires
-good-requires c κs = search needs
-
 table-requires : tie.Need-table-requires
 table-requires c κs =
     let s = c .before .before .before .before .args .s .now in
@@ -60,8 +54,8 @@ pub load-spec : {M : Type 1} → statement M
 load-spec =
     tie.close
     (tie.spec
-    check-requires
-    good-requires
+    (λ c κs. search needs)
+    (λ c κs. search needs)
     table-requires
     table-requires-2
     table-requires-3

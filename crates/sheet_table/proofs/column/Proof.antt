@@ -9,15 +9,9 @@ returns : tie.Need-returns
 unfolding columnOf
 returns c = search tests
 
-sub-digit : tie.Need-sub-digit
-sub-digit c = search needs
-
-digit-requires : tie.Need-digit-requires
-digit-requires c κs = search needs
-
 returns-2 : tie.Need-returns-2
 unfolding columnOf
 returns-2 c = search tests
 
 pub column-spec : {M : Type 1} → statement M
-column-spec = tie.close (tie.spec returns sub-digit digit-requires returns-2)
+column-spec = tie.close (tie.spec returns (λ c. search needs) (λ c κs. search needs) returns-2)

@@ -6,32 +6,11 @@ use borrow.Author.Needs.{needs}
 use Rattle.sheet_table.proofs.digit.Statement.{statement}
 use Rattle.sheet_table.proofs.digit.Tie as tie
 
-mul-number : tie.Need-mul-number
-mul-number c = search needs
-
-add-number : tie.Need-add-number
-add-number c = search needs
-
-number-requires : tie.Need-number-requires
-number-requires c κs = search needs
-
-mul-if1 : tie.Need-mul-if1
-mul-if1 c = search needs
-
-part-byte-requires : tie.Need-part-byte-requires
-part-byte-requires c κs = search needs
-
-up-requires : tie.Need-up-requires
-up-requires c κs = search needs
-
 returns : tie.Need-returns
 unfolding digitOf
 returns c =
     let n = c .before .before .before .before in
     rw (sym (n .number .ensures .0), lt-ltb _ _ (c .before .before .before .if1 .taken), eq-eqb _ _ (c .before .if2 .taken), n .number .ensures .0, c .up .ensures, c .before .before .part-byte .ensures)
-
-up-requires-2 : tie.Need-up-requires-2
-up-requires-2 c κs = search needs
 
 returns-2 : tie.Need-returns-2
 unfolding digitOf
@@ -47,13 +26,13 @@ pub digit-spec : {M : Type 1} → statement M
 digit-spec =
     tie.close
     (tie.spec
-    mul-number
-    add-number
-    number-requires
-    mul-if1
-    part-byte-requires
-    up-requires
+    (λ c. search needs)
+    (λ c. search needs)
+    (λ c κs. search needs)
+    (λ c. search needs)
+    (λ c κs. search needs)
+    (λ c κs. search needs)
     returns
-    up-requires-2
+    (λ c κs. search needs)
     returns-2
     returns-3)

@@ -4,9 +4,6 @@ use borrow.Author.Needs.{needs}
 use Rattle.sheet_table.proofs.head.Statement.{statement}
 use Rattle.sheet_table.proofs.head.Tie as tie
 
-returns : tie.Need-returns
-unfolding heading
-returns c = search needs
-
 pub head-spec : {M : Type 1} → statement M
-head-spec = tie.close (tie.spec returns)
+unfolding heading
+head-spec = tie.close (tie.spec (λ c. search needs))

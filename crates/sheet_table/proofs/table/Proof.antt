@@ -17,18 +17,6 @@ Inv-loop s out₀ n o₀ k₀ out o k = (k ≤ n) × (n < 256) × (o ≡ 82 * k 
 abbrev μ-loop : tie.MeasureT-loop
 μ-loop s out₀ n o₀ k₀ out o k = n - k
 
-head-requires : tie.Need-head-requires Inv-loop μ-loop
-head-requires c κs = search needs
-
-count-requires : tie.Need-count-requires Inv-loop μ-loop
-count-requires c κs = search needs
-
-slice-aggregate-put : tie.Need-slice-aggregate-put Inv-loop μ-loop
-slice-aggregate-put c = search needs
-
-put-requires : tie.Need-put-requires Inv-loop μ-loop
-put-requires c κs = search needs
-
 loop-holds : tie.Need-loop-holds Inv-loop μ-loop
 unfolding tableText
 loop-holds c =
@@ -39,21 +27,6 @@ loop-holds c =
     let none : count .result - 0 ≡ count .result = omega arith in
     let long : length (head .result) ≡ 82 = search needs in
     (omega arith, count .ensures .1, omega (arith, put .ensures .1 .0, long), omega (arith, put .ensures .1 .1, c .before .before .before .before .before .before .before .before .before .pre), rw (put .ensures .0, head .ensures, none, count .ensures .0))
-
-row-requires : tie.Need-row-requires Inv-loop μ-loop
-row-requires c κs = search needs
-
-slice-aggregate-put-2 : tie.Need-slice-aggregate-put-2 Inv-loop μ-loop
-slice-aggregate-put-2 c = search needs
-
-put-requires-2 : tie.Need-put-requires-2 Inv-loop μ-loop
-put-requires-2 c κs = search needs
-
-add-k : tie.Need-add-k Inv-loop μ-loop
-add-k c = search needs
-
-loop-less : tie.Need-loop-less Inv-loop μ-loop
-loop-less c = search needs
 
 loop-again : tie.Need-loop-again Inv-loop μ-loop
 loop-again c =
@@ -71,9 +44,6 @@ loop-again c =
       d .loop .inv .4 ∙ rw (rows-step s (count .result) k (omega arith), put .ensures .0, row .ensures, add-one k) (sym (append-assoc (take (d .loop .o) (d .loop .out)) (rowText s k) (rowsText s (suc k) (count .result - suc k)))),
     )
 
-same-length : tie.Need-same-length Inv-loop μ-loop
-same-length c = search needs
-
 returns : tie.Need-returns Inv-loop μ-loop
 returns c =
     let d = c .before in
@@ -88,16 +58,16 @@ table-spec =
     (tie.spec
     Inv-loop
     μ-loop
-    head-requires
-    count-requires
-    slice-aggregate-put
-    put-requires
+    (λ c κs. search needs)
+    (λ c κs. search needs)
+    (λ c. search needs)
+    (λ c κs. search needs)
     loop-holds
-    row-requires
-    slice-aggregate-put-2
-    put-requires-2
-    add-k
-    loop-less
+    (λ c κs. search needs)
+    (λ c. search needs)
+    (λ c κs. search needs)
+    (λ c. search needs)
+    (λ c. search needs)
     loop-again
-    same-length
+    (λ c. search needs)
     returns)

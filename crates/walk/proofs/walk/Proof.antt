@@ -9,22 +9,13 @@ returns : tie.Need-returns
 unfolding walkOf
 returns c = search tests
 
-shared-slice-read-if2 : tie.Need-shared-slice-read-if2
-shared-slice-read-if2 c = search needs
-
 returns-2 : tie.Need-returns-2
 unfolding walkOf
 returns-2 c = search tests
-
-shared-slice-read-items : tie.Need-shared-slice-read-items
-shared-slice-read-items c = search needs
-
-items-requires : tie.Need-items-requires
-items-requires c κs = search needs
 
 returns-3 : tie.Need-returns-3
 unfolding walkOf
 returns-3 c = search (tests, c .items .ensures)
 
 pub walk-spec : {M : Type 1} → statement M
-walk-spec = tie.close (tie.spec returns shared-slice-read-if2 returns-2 shared-slice-read-items items-requires returns-3)
+walk-spec = tie.close (tie.spec returns (λ c. search needs) returns-2 (λ c. search needs) (λ c κs. search needs) returns-3)
