@@ -44,7 +44,7 @@ class Edits(Test):
 
     def test_what_a_crate_stands_on(self):
         self.assertEqual([], breaking.dependencies("bits"))
-        self.assertEqual(["answer", "bits", "map"], breaking.dependencies("rules"))
+        self.assertEqual(["access", "answer", "any_device", "any_map", "bits", "map", "past", "plain"], breaking.dependencies("rules"))
         self.assertIn("bits", breaking.dependencies("console"))
 
     def test_only_the_named_one_is_made(self):
