@@ -120,7 +120,7 @@ pub field-only : (f : Field) (i j : ℕ) → i < 256 → j < 8 → bitOf f i j �
 unfolding bit-tests
 field-only f i j h k = same-eq _ _ (both-left (same (bitOf f i j) (ofOnce (fieldNumber f) (classOf i j))) _ (bit-test f i j h k))
 
--- ---- the table of places, by which the machine and the code go, says what the rows say
+-- ---- the table of places, by which the machine goes, says what the rows say
 
 all-agree : (p : Platform) → T (allBelow 256 (agrees builtIn p))
 unfolding rows rowAt classAt spans placesOf ofField
