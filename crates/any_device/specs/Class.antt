@@ -105,9 +105,5 @@ module _ {K : Type 0} where
   abbrev pub byHost : Host → Class K → Bool
   byHost w c = hostedBy w (c .host)
 
-  -- somebody's update may change it
-  abbrev pub isHost : Class K → Bool
-  isHost c = isHosted (c .host)
-
   abbrev pub hasF : Class K → Bool
   hasF c = c .returned

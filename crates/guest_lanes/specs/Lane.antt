@@ -7,22 +7,12 @@ use Rattle.any_map.specs.Map.{maskAt}
 use Rattle.any_device.specs.Class.{Stored, never, always, once, until, special}
 use Rattle.any_device.specs.Device.{isClosed}
 use Rattle.map.specs.Registers.{GMADR}
-use Rattle.map.specs.Class.{ivyBridge, Special, size, taken, power, Class}
+use Rattle.map.specs.Class.{ivyBridge, Special, Class}
 use Rattle.map.specs.Map.{igd}
 use Rattle.rules.specs.declared.Flags.{Flags}
-use Rattle.rules.specs.Device.{takenBy, holdsBy, closedOf}
+use Rattle.rules.specs.Device.{holdsBy, isTaken, closedOf}
 
 -- ---- which guest bits a write leaves
-
--- a bit of GMADR that the size code takes
-abbrev pub isTaken : ℕ → Stored Special → Bool
-isTaken code never = false
-isTaken code always = false
-isTaken code (once f) = false
-isTaken code (until cs) = false
-isTaken code (special size) = false
-isTaken code (special (taken b)) = takenBy code b
-isTaken code (special power) = false
 
 unfoldable pub takenMask : ℕ → ℕ
 takenMask code = maskAt (igd ivyBridge) (λ (k : Class). isTaken code (k .stored)) (GMADR + 3)

@@ -5,14 +5,12 @@ use mathlib.Core.Bool.{Bool, true, false, not}
 use Prim.Native.Nat.{ℕ, _+_, _/_, _%_, _^_, _<_}
 use native.Mathlib.Omega.{arith}
 use native.Mathlib.Nat.{add-zero, div-one}
-use lib.Dec.{T, eqb, ltb, ltb→lt}
+use lib.Dec.{eqb}
 use lib.ListN.{length}
-use borrow.Author.Tests.{lt-leb}
 use Rattle.bits.specs.Bits.{bit, byteOf, blendK}
 use Rattle.bits.specs.Choice.{pick, both}
 use Rattle.bits.specs.Places.{bytes}
 use Rattle.bits.proofs.Laws.{number-ext, bit-number, bit-zero}
-use Rattle.bits.proofs.Below.{both-off}
 use Rattle.bits.proofs.Places.{getD-bytes, length-bytes, bytes-ext, changed}
 use Rattle.answer.specs.Refusals.{fine, no, OFFSET}
 use Rattle.access.specs.Access.{enabled, byteFor, badOffset}
@@ -21,18 +19,17 @@ use Rattle.plain.specs.Plain as P
 use Rattle.plain.specs.Plain.{Mask, made}
 use Rattle.plain.proofs.Bridge.{stored-is}
 use Rattle.any_map.proofs.Blends.{blend-by}
-use Rattle.any_device.specs.Class.{Stored, never, always, once, until, special}
 use Rattle.any_device.specs.Device as D
 use Rattle.any_device.proofs.EachBit.{stored<2}
 use Rattle.map.specs.Registers.{GMADR, MSAC}
-use Rattle.map.specs.Class.{ivyBridge, Special, size, taken, power, Class}
+use Rattle.map.specs.Class.{ivyBridge, Class}
 use Rattle.map.specs.Map.{igd, classOf, guests}
 use Rattle.rules.specs.declared.State.{State}
 use Rattle.rules.specs.Access.{holding, byte, busy, Outcome, done, refused}
-use Rattle.rules.specs.Device.{leastExponent, takenBy, codeIn, sweeps, builtIn, core}
+use Rattle.rules.specs.Device.{codeIn, isTaken, builtIn, core}
 use Rattle.rules.specs.Guest.{bitAfter, flagsAfter, writtenOf, stepOf, writeOf}
-use Rattle.rules.proofs.Stored.{storedBit, heldBack, stored-form, apertureBit, low-elsewhere}
-use Rattle.guest_lanes.specs.Lane.{isTaken, takenMask}
+use Rattle.rules.proofs.Stored.{storedBit, heldBack, stored-form, swept-is, not-taken, low-elsewhere}
+use Rattle.guest_lanes.specs.Lane.{takenMask}
 use Rattle.guest_lanes.proofs.Bridge.{reach-has}
 use Rattle.guest_write.specs.Bytes.{reachAt, storedBytes, clearedBytes, clearIf, stepBytes, Lent, lent, writeLanes}
 
@@ -60,27 +57,6 @@ module _ (s : State) (o l v : ℕ) (within : o + 3 < 256) where
       ∙ bytes-ext (λ (i : ℕ). byteOf (P.writtenBit reaches (P.held (s .bytes)) o l v i)) (λ (i : ℕ). byteOf (storedBit s o l v i)) (λ i h. number-ext 8 (P.writtenBit reaches (P.held (s .bytes)) o l v i) (storedBit s o l v i) (λ j k. sym (stored-form s o l v i j)))
 
 -- ---- the clearing by MSAC
-
--- a write to MSAC clears the bits that the code takes, and no other write clears any
-swept-is : (st : Stored Special) (m : List ℕ) (o l : ℕ) → D.swept builtIn m o l st ≡ both (enabled o l MSAC) (isTaken (codeIn m) st)
-unfolding D.swept sweeps
-swept-is never m o l = sym (both-off (enabled o l MSAC))
-swept-is always m o l = sym (both-off (enabled o l MSAC))
-swept-is (once f) m o l = sym (both-off (enabled o l MSAC))
-swept-is (until cs) m o l = sym (both-off (enabled o l MSAC))
-swept-is (special size) m o l = sym (both-off (enabled o l MSAC))
-swept-is (special (taken b)) m o l = refl
-swept-is (special power) m o l = sym (both-off (enabled o l MSAC))
-
-not-taken : (code : ℕ) (st : Stored Special) → T (ltb (apertureBit st) leastExponent) → isTaken code st ≡ false
-unfolding takenBy
-not-taken code never t = refl
-not-taken code always t = refl
-not-taken code (once f) t = refl
-not-taken code (until cs) t = refl
-not-taken code (special size) t = refl
-not-taken code (special (taken b)) t = rw (lt-leb leastExponent b (ltb→lt b leastExponent t))
-not-taken code (special power) t = refl
 
 module _ (f : ℕ → ℕ → ℕ) (b : (i j : ℕ) → f i j < 2) where
   abbrev F : ℕ → ℕ

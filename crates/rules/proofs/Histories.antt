@@ -1,19 +1,19 @@
 -- The histories of demand 3: instances of the laws of any device.
-use mathlib.Core.Path.{_≡_, refl, ap, subst, _∙_}
+use mathlib.Core.Path.{_≡_, refl, ap, _∙_}
 use mathlib.Core.List.{List}
 use mathlib.Core.Bool.{Bool, true, false, not}
 use Prim.Native.Nat.{ℕ, _<_}
 use lib.Dec.{T}
 use Rattle.bits.specs.Bits.{bit}
 use Rattle.plain.specs.Plain.{held}
-use Rattle.any_device.specs.Class.{never, isNever, stores, isHosted}
+use Rattle.any_device.specs.Class.{stores, isHosted}
 use Rattle.any_device.specs.Device as D
 use Rattle.any_device.specs.Kinds as K
 use Rattle.any_device.specs.First.{Locked}
 use Rattle.any_device.proofs.Histories as H
 use Rattle.any_device.proofs.First.{first-write}
 use Rattle.any_device.proofs.Fixed as F
-use Rattle.any_device.proofs.Parts.{never-is, none-is}
+use Rattle.any_device.proofs.Parts.{unstored-is, none-is}
 use Rattle.map.specs.Class.{Platform, ivyBridge, Field, fieldNumber}
 use Rattle.map.specs.Map.{classOf, defaultAt}
 use Rattle.map.proofs.Classes.{unclearing}
@@ -29,10 +29,6 @@ use Rattle.rules.proofs.Runs.{run-deeds}
 one-platform : (p : Platform) → p ≡ ivyBridge
 one-platform ivyBridge = refl
 
-not-not : (b : Bool) → not b ≡ false → T b
-not-not true e = tt
-not-not false e = subst T e tt
-
 of-run : (es : List Event) (i j : ℕ) → bit (byte (run es) i) j ≡ held (K.run builtIn ivyBridge (deeds es) .bytes) i j
 of-run es i j = ap (λ (s : D.State Platform). held (s .bytes) i j) (run-deeds es)
 
@@ -40,14 +36,11 @@ pub once-history : (f : Field) (i j : ℕ) → i < 256 → j < 8 → Locked buil
 once-history f i j h k is es = of-run es i j ∙ first-write builtIn (fieldNumber f) fields-placed (in-range f) i j h k ivyBridge (deeds es) (rw (one-platform (K.platformOf (K.touching builtIn (fieldNumber f)) ivyBridge (deeds es))) is)
 
 module _ (i j : ℕ) (h : i < 256) (k : j < 8) (fixed : stores (classOf i j) ≡ false) (es : List Event) where
-  stored-never : classOf i j .stored ≡ never
-  stored-never = never-is (classOf i j .stored) (not-not (isNever (classOf i j .stored)) fixed)
-
   pub fixed-history : bit (byte (run es) i) j ≡ orDefault (lastUpdate i j es) i j
-  fixed-history = of-run es i j ∙ H.read-only builtIn i j h k ivyBridge (deeds es) (rw (one-platform (K.platformOf K.noField ivyBridge (deeds es))) (stored-never, unclearing i j))
+  fixed-history = of-run es i j ∙ H.read-only builtIn i j h k ivyBridge (deeds es) (rw (one-platform (K.platformOf K.noField ivyBridge (deeds es))) (unstored-is (classOf i j) fixed, unclearing i j))
 
   -- nor the host's: it holds its default
   pub default-holds : T (not (isHosted (classOf i j .host))) → bit (byte (run es) i) j ≡ bit (defaultAt i) j
   default-holds own =
       let here : K.platformOf K.noField ivyBridge (deeds es) ≡ ivyBridge = one-platform (K.platformOf K.noField ivyBridge (deeds es)) in
-      of-run es i j ∙ F.default-holds builtIn i j h k ivyBridge (deeds es) (rw here (stored-never, unclearing i j, none-is (classOf i j .host) own)) ∙ rw here
+      of-run es i j ∙ F.default-holds builtIn i j h k ivyBridge (deeds es) (rw here (unstored-is (classOf i j) fixed, unclearing i j, none-is (classOf i j .host) own)) ∙ rw here

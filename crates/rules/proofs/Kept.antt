@@ -13,9 +13,9 @@ use Rattle.access.proofs.Access.{enabled-within, not-within}
 use Rattle.past.specs.Past.{nothing, given, orHeld}
 use Rattle.plain.proofs.Plain as P
 use Rattle.any_map.specs.Map.{rowAt, classAt}
-use Rattle.any_device.specs.Class.{never, device, isNever, stores, byHost, hasF}
+use Rattle.any_device.specs.Class.{never, device, stores, byHost, hasF}
 use Rattle.any_device.specs.Device as D
-use Rattle.any_device.proofs.Parts.{never-is}
+use Rattle.any_device.proofs.Parts.{unstored-is}
 use Rattle.map.specs.Registers.{MSAC, AFCTL}
 use Rattle.map.specs.Map.{rows, classOf}
 use Rattle.map.proofs.Classes.{unclearing}
@@ -32,12 +32,8 @@ use Rattle.rules.proofs.Stored.{left, stored-off, only-stored}
 pub unstored : (s : State) (o l v i j : ℕ) → stores (classOf i j) ≡ false → bitAfter s o l v i j ≡ bit (byte s i) j
 unfolding D.heldBack D.swept
 unstored s o l v i j e =
-    let is : classOf i j .stored ≡ never = never-is (classOf i j .stored) (not-not (isNever (classOf i j .stored)) e) in
+    let is : classOf i j .stored ≡ never = unstored-is (classOf i j) e in
     only-stored s o l v i j (λ m. rw is) ∙ stored-off s o l v i j (rw is)
-  where
-    not-not : (b : Bool) → not b ≡ false → T b
-    not-not true e = tt
-    not-not false e = subst T e tt
 
 -- no bit of AFCTL's dword is stored
 dword-plain : T (allBelow 4 (λ (k : ℕ). allBelow 8 (λ (j : ℕ). not (stores (classOf (AFCTL + k) j)))))

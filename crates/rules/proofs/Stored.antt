@@ -1,11 +1,10 @@
 -- A store, where the class of the bit is one of this map's: what takes the bit written, what stays, and that only byte 3 of GMADR has bits that a size code takes.
-use mathlib.Core.Path.{_≡_, refl, _∙_}
+use mathlib.Core.Path.{_≡_, refl, sym, _∙_}
 use mathlib.Core.List.{List}
 use mathlib.Core.Bool.{Bool, true, false, not}
 use Prim.Native.Nat.{ℕ, _+_, _^_, _<_}
-use native.Mathlib.Omega.{arith}
-use lib.Dec.{T, eqb, ltb, leb, leb→le, ltb→lt}
-use borrow.Author.Tests.{ne-eqb}
+use lib.Dec.{T, eqb, ltb, ltb→lt}
+use borrow.Author.Tests.{ne-eqb, lt-leb}
 use Rattle.bits.specs.Bits.{bit, byteOf}
 use Rattle.bits.specs.Choice.{pick, both, either, allBelow}
 use Rattle.bits.proofs.Laws.{number-bits, number-ext}
@@ -23,7 +22,7 @@ use Rattle.map.specs.Map.{rows, classOf}
 use Rattle.map.proofs.Classes.{unclearing}
 use Rattle.rules.specs.declared.State.{State}
 use Rattle.rules.specs.Access.{byte}
-use Rattle.rules.specs.Device.{leastExponent, takenBy, sweeps, builtIn, core}
+use Rattle.rules.specs.Device.{leastExponent, takenBy, codeIn, sweeps, isTaken, builtIn, core}
 use Rattle.rules.specs.Guest.{bitAfter}
 
 abbrev pub storedBit : State → ℕ → ℕ → ℕ → ℕ → ℕ → ℕ
@@ -66,25 +65,30 @@ apertureBit (special size) = 0
 apertureBit (special (taken b)) = b
 apertureBit (special power) = 0
 
+-- a write to MSAC clears the bits that the code takes, and no other write clears any
+pub swept-is : (st : Stored Special) (m : List ℕ) (o l : ℕ) → D.swept builtIn m o l st ≡ both (enabled o l MSAC) (isTaken (codeIn m) st)
+unfolding D.swept sweeps
+swept-is never m o l = sym (both-off (enabled o l MSAC))
+swept-is always m o l = sym (both-off (enabled o l MSAC))
+swept-is (once f) m o l = sym (both-off (enabled o l MSAC))
+swept-is (until cs) m o l = sym (both-off (enabled o l MSAC))
+swept-is (special size) m o l = sym (both-off (enabled o l MSAC))
+swept-is (special (taken b)) m o l = refl
+swept-is (special power) m o l = sym (both-off (enabled o l MSAC))
+
 -- a bit whose number no code takes
+pub not-taken : (code : ℕ) (st : Stored Special) → T (ltb (apertureBit st) leastExponent) → isTaken code st ≡ false
+unfolding takenBy
+not-taken code never t = refl
+not-taken code always t = refl
+not-taken code (once f) t = refl
+not-taken code (until cs) t = refl
+not-taken code (special size) t = refl
+not-taken code (special (taken b)) t = rw (lt-leb leastExponent b (ltb→lt b leastExponent t))
+not-taken code (special power) t = refl
+
 pub unswept : (st : Stored Special) → T (ltb (apertureBit st) leastExponent) → (m : List ℕ) (o l : ℕ) → D.swept builtIn m o l st ≡ false
-unfolding D.swept sweeps takenBy
-unswept never t m o l = refl
-unswept always t m o l = refl
-unswept (once f) t m o l = refl
-unswept (until cs) t m o l = refl
-unswept (special size) t m o l = refl
-unswept (special (taken b)) t m o l =
-    let low : leb leastExponent b ≡ false = le-low b (ltb→lt b leastExponent t) in
-    rw (low, both-off (enabled o l MSAC))
-  where
-    le-low : (b : ℕ) → b < leastExponent → leb leastExponent b ≡ false
-    le-low b h = is-off (leb leastExponent b) (λ u. omega (arith, leb→le leastExponent b u))
-      where
-        is-off : (c : Bool) → (T c → ⊥) → c ≡ false
-        is-off true n = absurd (n tt)
-        is-off false n = refl
-unswept (special power) t m o l = refl
+unswept st t m o l = swept-is st m o l ∙ rw (not-taken (codeIn m) st t, both-off (enabled o l MSAC))
 
 low-at : ℕ → Bool
 low-at i = either (eqb i (GMADR + 3)) (allBelow 8 (λ (j : ℕ). ltb (apertureBit (classOf i j .stored)) leastExponent))
@@ -103,20 +107,9 @@ pub only-stored : (s : State) (o l v i j : ℕ) → ((m : List ℕ) → D.swept 
 unfolding D.writtenBit
 only-stored s o l v i j c = rw (c (made (storedBit s o l v)))
 
--- where MSAC is not enabled nothing is cleared
-pub swept-not : (st : Stored Special) (m : List ℕ) (o l : ℕ) → enabled o l MSAC ≡ false → D.swept builtIn m o l st ≡ false
-unfolding D.swept sweeps
-swept-not never m o l e = refl
-swept-not always m o l e = refl
-swept-not (once f) m o l e = refl
-swept-not (until cs) m o l e = refl
-swept-not (special size) m o l e = refl
-swept-not (special (taken b)) m o l e = rw e
-swept-not (special power) m o l e = refl
-
 -- a bit whose byte is not enabled stays, where MSAC is not enabled either
 pub left : (s : State) (o l v i j : ℕ) → enabled o l MSAC ≡ false → enabled o l i ≡ false → bitAfter s o l v i j ≡ bit (byte s i) j
-left s o l v i j m e = only-stored s o l v i j (λ b. swept-not (classOf i j .stored) b o l m) ∙ beside s o l v i j e
+left s o l v i j m e = only-stored s o l v i j (λ b. swept-is (classOf i j .stored) b o l ∙ rw m) ∙ beside s o l v i j e
 
 -- ---- a host update and the end of a function reset, by the plain rule
 

@@ -7,6 +7,7 @@ use Rattle.bits.specs.Bits.{bit, field}
 use Rattle.bits.specs.Choice.{if_then_else_, _and_, _or_, _is_, _≤?_, _<?_}
 use Rattle.access.specs.Access.{enabled}
 use Rattle.any_map.specs.Map.{classAt, defaults}
+use Rattle.any_device.specs.Class.{Stored, never, always, once, until, special}
 use Rattle.any_device.specs.Device as D
 use Rattle.any_device.specs.Device.{Device, Span, span, placesOf}
 use Rattle.map.specs.Registers.{SVID2, SID2, MSAC, CAPL, SWSCI}
@@ -53,6 +54,16 @@ unfoldable pub sweeps : Special → List ℕ → ℕ → ℕ → Bool
 sweeps size m o l = false
 sweeps (taken b) m o l = enabled o l MSAC and takenBy (codeIn m) b
 sweeps power m o l = false
+
+-- a bit of GMADR that the code takes
+abbrev pub isTaken : ℕ → Stored Special → Bool
+isTaken code never = false
+isTaken code always = false
+isTaken code (once f) = false
+isTaken code (until cs) = false
+isTaken code (special size) = false
+isTaken code (special (taken b)) = takenBy code b
+isTaken code (special power) = false
 
 -- ---- the computed pointer
 
