@@ -1,6 +1,7 @@
-"""The proved programs: built where they are not, run through pipes, and held to an answer to every line."""
+"""The proved programs and the library: built where they are not; programs are run through pipes, and held to an answer to every line."""
 import contextlib
 import os
+import re
 import select
 import shutil
 import subprocess
@@ -46,19 +47,36 @@ def crates():
         for line in file:
             name, colon, rest = line.partition("#")[0].partition(":")
             if colon:
-                listed[name.strip()] = rest.split()
+                listed[name.split()[0]] = rest.split()
     return {name: [one for one in needs if one in listed] for name, needs in listed.items()}
 
 
 def stands_on(name):
-    """The crates that a program stands on, itself among them."""
-    listed, todo, found = crates(), [name], []
-    while todo:
-        one = todo.pop()
+    """The crates that a program stands on, each after those that it stands on itself, and itself last."""
+    listed, found = crates(), []
+
+    def add(one):
         if one not in found:
+            for below in listed.get(one, []):
+                add(below)
             found.append(one)
-            todo += listed.get(one, [])
+
+    add(name)
     return found
+
+
+def is_program(name):
+    return os.path.exists(path_of("crates", name, "src", "main.rt"))
+
+
+def place_of(name):
+    """Where a program stands for all that run it, and the library for all that link it."""
+    return path_of("target", "bin", name) if is_program(name) else path_of("target", "staticlib", "lib%s.a" % name)
+
+
+def made_by_rt(name):
+    """Where rt leaves it."""
+    return path_of("crates", name, "out", name if is_program(name) else "lib%s.a" % name)
 
 
 def newest_below(folder):
@@ -77,26 +95,34 @@ def newest_below(folder):
     return newest
 
 
-def built(name):
-    """Whether target/bin/NAME is there and no source of a crate that it stands on is newer."""
+def built(name, path=None):
+    """Whether a program or the library is there and no source of a crate that it stands on is newer."""
     try:
-        made = os.stat(path_of("target", "bin", name)).st_mtime_ns
+        made = os.stat(path or place_of(name)).st_mtime_ns
     except FileNotFoundError:
         return False
     return all(newest_below(path_of("crates", crate, part)) <= made for crate in stands_on(name) for part in SOURCES)
 
 
 def build(name):
-    """Proves and builds target/bin/NAME where it is missing or older than its sources; says on standard error how far it is."""
+    """Proves and builds a program or the library where it is missing or older than its sources; says on standard error how far it is."""
     if built(name):
         return
-    if not shutil.which("rt"):
-        there = os.path.exists(path_of("target", "bin", name))
-        raise Failed("target/bin/%s %s, and `rt`, which proves and builds it, is not on the path: the Rattle toolchain is needed"
-                     % (name, "is older than its sources" if there else "is not built"))
     with _one_at_a_time():
-        if not built(name):
+        if built(name):
+            return
+        # what `rt ci` or `rt run` has proved and built of these very sources is taken as it is
+        if not built(name, made_by_rt(name)):
             _prove(name)
+        _take(name)
+
+
+def _take(name):
+    """Puts what rt built where it is looked for, in one step: a program that runs meanwhile goes on."""
+    place = place_of(name)
+    os.makedirs(os.path.dirname(place), exist_ok=True)
+    shutil.copy(made_by_rt(name), place + ".new")
+    os.replace(place + ".new", place)
 
 
 class _one_at_a_time:
@@ -113,19 +139,24 @@ class _one_at_a_time:
 
 
 def _prove(name):
+    """Has rt prove and build it, in its crate's folder: `rt run` a program, which is given nothing and hence ends, `rt lib` the library."""
+    if not shutil.which("rt"):
+        there = os.path.relpath(place_of(name), ROOT)
+        raise Failed("%s %s, and `rt`, which proves and builds it, is not on the path: the Rattle toolchain is needed"
+                     % (there, "is older than its sources" if os.path.exists(place_of(name)) else "is not built"))
     plan = stands_on(name)
-    progress = _Progress(name, len(plan))
-    # more checks at a time than a small machine has processors: none waits for the longest of a pair
-    environment = {"RT_JOBS": "4", **os.environ}
-    run = subprocess.Popen(["rt", "check", name], cwd=ROOT, env=environment, stdin=subprocess.DEVNULL, stdout=subprocess.PIPE,
-                           stderr=subprocess.STDOUT)
-    wrong = []
+    progress = _Progress(name, plan)
+    run = subprocess.Popen(["rt", "run" if is_program(name) else "lib"], cwd=path_of("crates", name), stdin=subprocess.DEVNULL,
+                           stdout=subprocess.PIPE, stderr=subprocess.STDOUT)
+    wrong, runs = [], False
     try:
         for line in progress.lines(run.stdout):
-            words = line.split()
-            if words[:1] == ["rt:"] and words[2:3] == ["proved"] and words[1] in plan:
-                progress.step(words[1])
-            elif "NOT PROVED" in line or "FAILED" in line:
+            begun = re.match(r"rt: chose --jobs \d+ for (\w+)$", line)
+            # what comes from there on is the program's
+            runs = runs or line.startswith("rt: running out/")
+            if begun and begun[1] in plan:
+                progress.step(begun[1])
+            elif not runs and re.search(r"\berror\b|: not proved|: no proof|did not build", line):
                 wrong.append(line.strip())
         status = run.wait()
     finally:
@@ -133,20 +164,18 @@ def _prove(name):
         if run.poll() is None:
             run.terminate()
             run.wait()
-    if status != 0:
-        said = " (%s)" % wrong[0] if wrong else ""
-        raise Failed("%s could not be proved and built%s; `rt check %s` in %s says why" % (name, said, name, ROOT))
-    if not os.path.exists(path_of("target", "bin", name)):
-        raise Failed("rt built no target/bin/%s" % name)
-    # what rt finds unchanged it does not write again: its time says that it was held to these sources
-    os.utime(path_of("target", "bin", name))
+    if not runs if is_program(name) else status != 0:
+        said = " (%s)" % wrong[0][:200] if wrong else ""
+        raise Failed("%s could not be proved and built%s; `rt check` in crates/%s of %s says why" % (name, said, name, ROOT))
+    if not os.path.exists(made_by_rt(name)):
+        raise Failed("rt built no %s" % os.path.relpath(made_by_rt(name), ROOT))
 
 
 class _Progress:
-    """A line that moves: `[7/15] lines`, in place on a terminal, else a line each."""
+    """A line that moves: `[7/15] lines`, the seventh crate is being proved, in place on a terminal, else a line each."""
 
-    def __init__(self, name, total):
-        self.total, self.done, self.name, self.seconds = total, 0, name, 0
+    def __init__(self, name, plan):
+        self.plan, self.done, self.name, self.seconds = plan, 0, name, 0
         self.moves = sys.stderr is not None and sys.stderr.isatty()
         self._say("twin: proving and building %s, minutes the first time\n" % name)
 
@@ -169,13 +198,13 @@ class _Progress:
             yield rest.decode("utf-8", "replace")
 
     def step(self, crate):
-        self.done, self.name = self.done + 1, crate
+        self.done, self.name = self.plan.index(crate) + 1, crate
         self._show("" if self.moves else "\n")
 
     def _show(self, end):
         start = "\r\x1b[K" if self.moves else ""
         clock = "  %d s" % self.seconds if self.moves and self.seconds else ""
-        self._say("%s[%d/%d] %s%s%s" % (start, self.done, self.total, self.name, clock, end))
+        self._say("%s[%d/%d] %s%s%s" % (start, self.done, len(self.plan), self.name, clock, end))
 
     def end(self):
         if self.moves and (self.done or self.seconds):

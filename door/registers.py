@@ -26,11 +26,11 @@ CLASSES = {
     "guest": Class("plain", True, False, False),
     "guestF": Class("plain", True, False, True),
     "once": Class("lock", True, False, False),
-    "sizeCode": Class("size code", True, False, False),
+    "size_code": Class("size code", True, False, False),
     "aperture": Class("plain", True, False, True),
     "power": Class("power", True, False, True),
     "computed": Class("computed", False, False, False),
-    "resetStart": Class("reset start", False, False, False),
+    "reset_start": Class("reset start", False, False, False),
 }
 
 

@@ -1,5 +1,5 @@
 // A lock, and a function reset that does not undo it.
-//     rt staticlib lent && cc -Iinclude examples/lock.c target/staticlib/liblent.a -o lock && ./lock
+//     tools/build lent && cc -Iinclude examples/lock.c target/staticlib/liblent.a -o lock && ./lock
 #include <stdio.h>
 
 #include "twin.h"

@@ -1,5 +1,5 @@
 // A driver's poll: it starts a function reset and reads AFCTL until the reset is over. The bench plays the device, which takes its time.
-//     rt staticlib lent && cc -Iinclude examples/poll.c target/staticlib/liblent.a -o poll && ./poll
+//     tools/build lent && cc -Iinclude examples/poll.c target/staticlib/liblent.a -o poll && ./poll
 #include <stdio.h>
 
 #include "twin.h"

@@ -1,5 +1,5 @@
 // From an address to a register: a driver places GTTMMADR's window, reads there what went wrong, and requests a reset of the render engine. The bench plays the bus and the device.
-//     rt staticlib lent && cc -Iinclude examples/window.c target/staticlib/liblent.a -o window && ./window
+//     tools/build lent && cc -Iinclude examples/window.c target/staticlib/liblent.a -o window && ./window
 #include <stdio.h>
 
 #include "twin.h"

@@ -1,6 +1,6 @@
 // The twin's library: one state record that the caller lends, updated where it lies, and every entry over it.
 //
-// C11 and C++11 or later, x86-64 Linux. 'rt staticlib lent' writes the archive to link, target/staticlib/liblent.a; it needs memcpy and nothing else.
+// C11 and C++11 or later, x86-64 Linux. 'tools/build lent' proves the library and writes the archive to link, target/staticlib/liblent.a; it needs memcpy and nothing else.
 //
 // Proved of the exported functions, for every argument and every record: they end, do nothing undefined, and answer by the rules. Outside the proofs, and the caller's duty:
 // - a pointer is not null, leads to a whole record (or to as many bytes as the length says), and a record is aligned to 4 bytes, as the compiler places a twin_state;

@@ -13,7 +13,7 @@ A refused access changes nothing and raises Refused, which has the paper's numbe
 
 The library is the shared object that the variable TWIN_LIBRARY names, or target/libtwin.so of this repository. To make it (x86-64 Linux):
 
-    rt staticlib lent
+    tools/build lent
     cc -shared -o target/libtwin.so -Wl,--whole-archive target/staticlib/liblent.a -Wl,--no-whole-archive
 
 What the library does is proved; what stands here only packs and unpacks, and is tested. One Twin is for one thread at a time; different ones share nothing.
@@ -114,7 +114,7 @@ def _library():
     usual = pathlib.Path(__file__).resolve().parents[2] / "target" / "libtwin.so"
     path = os.environ.get("TWIN_LIBRARY") or str(usual)
     if not os.path.exists(path):
-        raise OSError(f"{path} is missing. In the repository: rt staticlib lent && cc -shared -o target/libtwin.so "
+        raise OSError(f"{path} is missing. In the repository: tools/build lent && cc -shared -o target/libtwin.so "
                       "-Wl,--whole-archive target/staticlib/liblent.a -Wl,--no-whole-archive. TWIN_LIBRARY names another place")
     lib = ctypes.CDLL(path)
     state, u32, u64 = ctypes.POINTER(State), ctypes.c_uint32, ctypes.c_uint64

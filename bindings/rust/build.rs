@@ -1,4 +1,4 @@
-//! Finds the archive: in the folder TWIN_LIB_DIR, or where `rt staticlib lent` writes it.
+//! Finds the archive: in the folder TWIN_LIB_DIR, or where `tools/build lent` writes it.
 
 use std::env;
 use std::path::{Path, PathBuf};
@@ -17,7 +17,7 @@ fn main() {
     println!("cargo:rerun-if-changed={}", archive.display());
     if !archive.is_file() {
         panic!(
-            "{} is missing: 'rt staticlib lent' writes it; TWIN_LIB_DIR names another folder",
+            "{} is missing: 'tools/build lent' writes it; TWIN_LIB_DIR names another folder",
             archive.display()
         );
     }

@@ -7,6 +7,7 @@ from common import TOP, Test, run, text_of, tool
 
 BREAK = [sys.executable, "-B", os.path.join(TOP, "tools", "break")]
 breaking, held = tool("break"), tool("held")
+edits = held.edits
 
 
 class Lists(Test):
@@ -48,10 +49,17 @@ class Edits(Test):
         self.assertIn("bits", breaking.dependencies("console"))
 
     def test_only_the_named_one_is_made(self):
-        # twin's first.edit joins five; the copy is below target/break of a made repository
-        breaking.COPY = os.path.join(self.room, "break")
-        breaking.copied("twin")
-        lines = breaking.edited("twin", breaking.wrong_programs()["twin", "locks_forgotten"])
+        # twin's first.edit joins five
+        texts, lines = breaking.edited("twin", breaking.wrong_programs()["twin", "locks_forgotten"])
+        self.assertEqual(["src/lib.rt"], list(texts))
+        # the copy is outside the repository, with what it stands on and no more
+        copy = os.path.join(self.room, "copy")
+        edits.copied(TOP, "twin", copy)
+        edits.put(copy, "twin", texts)
+        self.assertEqual(sorted(breaking.dependencies("twin") + ["twin"]), sorted(os.listdir(os.path.join(copy, "crates"))))
+        with open(os.path.join(copy, "crates", "twin", "src", "lib.rt"), encoding="utf-8") as file:
+            self.assertEqual(texts["src/lib.rt"], file.read())
+        self.assertNotEqual(texts["src/lib.rt"], text_of("crates/twin/src/lib.rt"))
         self.assertEqual(1, sum(line.startswith("-") and not line.startswith("---") for line in lines))
         self.assertEqual(1, sum(line.startswith("+") and not line.startswith("+++") for line in lines))
         self.assertIn("+    let _after = w.flags; let after = c;", lines)

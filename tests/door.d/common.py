@@ -125,13 +125,12 @@ def cases():
 
 
 class Test(unittest.TestCase):
-    """A test with a folder of its own, below target/."""
+    """A test with a folder of its own, outside the checkout: `rt ci` refuses one in which a crate's file lies elsewhere."""
 
     maxDiff = 4000
 
     def setUp(self):
-        os.makedirs(os.path.join(TOP, "target", "door"), exist_ok=True)
-        room = tempfile.TemporaryDirectory(dir=os.path.join(TOP, "target", "door"))
+        room = tempfile.TemporaryDirectory(prefix="twin-")
         self.addCleanup(room.cleanup)
         self.room = room.name
 

@@ -136,8 +136,8 @@ def cells(text, heading):
     return table
 
 
-WORDS = {"host": "host", "guest": "plain", "guestF": "plain", "once": "lock", "sizeCode": "size code", "aperture": "aperture",
-         "power": "power", "computed": "computed", "resetStart": "reset start"}
+WORDS = {"host": "host", "guest": "plain", "guestF": "plain", "once": "lock", "size_code": "size code", "aperture": "aperture",
+         "power": "power", "computed": "computed", "reset_start": "reset start"}
 
 
 def bits_of(size, parts):

@@ -1,9 +1,12 @@
 """Files and outputs as they come: any bytes, nothing there, a full disk, a closed pipe. Never a traceback: a sentence and the right status."""
 import os
+import shutil
 import signal
 import subprocess
 
 from common import TOP, TWIN, Test, log_of, made, quick, run, twin
+
+from door import proved
 
 SESSION = "W 2C 3 00001234\nR 2C 3 = FFFF1234\n"
 
@@ -184,8 +187,12 @@ class Door(Test):
         top, folder = os.path.join(self.room, "top"), os.path.join(self.room, "bin")
         os.makedirs(os.path.join(top, "target", "bin"))
         os.makedirs(folder)
-        for name in ("crates", "crates.txt"):
-            os.symlink(os.path.join(TOP, name), os.path.join(top, name))
+        os.symlink(os.path.join(TOP, "crates.txt"), os.path.join(top, "crates.txt"))
+        for name in os.listdir(os.path.join(TOP, "crates")):
+            os.makedirs(os.path.join(top, "crates", name))
+            # what rt builds goes beside the sources, and not into those of the repository
+            for part in proved.SOURCES:
+                os.symlink(os.path.join(TOP, "crates", name, part), os.path.join(top, "crates", name, part))
         subprocess.run(["cp", "-r", os.path.join(TOP, "twin"), os.path.join(TOP, "door"), top], check=True)
         if console is not None:
             self.script(os.path.join(top, "target", "bin", "console"), console)
@@ -206,21 +213,35 @@ class Building(Door):
     """What a command needs is proved and built first."""
 
     def test_a_line_for_each_crate(self):
-        made = f"for crate in bits answer map; do echo \"rt: $crate proved (1 s)\"; done; cp {TOP}/target/bin/console target/bin/; echo 'rt: console proved (2 s)'"
-        words, environment = self.door(rt=f'echo "$@" >>called; {made}')
+        made = f"for crate in bits answer map console; do echo \"rt: chose --jobs 2 for $crate\"; done; mkdir out; cp {TOP}/target/bin/console out/; echo 'rt: running out/console'"
+        words, environment = self.door(rt=f'echo "$@" in "$(basename "$PWD")" >>../../called; {made}')
         done = run(words + ["run", "-"], "R 00 F\n", env=environment)
         self.assertEqual((0, "OK 01528086\n"), (done.status, done.out), str(done))
-        for part in (r"console", r"\[1/\d+\] bits", r"\[3/\d+\] map", r"\[4/\d+\] console"):
+        for part in (r"console", r"\[1/(\d+)\] bits", r"\[2/\d+\] answer", r"\[\d+/\d+\] map", r"\[(\d+)/\1\] console"):
             self.assertRegex(done.err, part)
         # the second time nothing is built
         done = run(words + ["run", "-"], "R 00 F\n", env=environment)
         self.assertEqual((0, "OK 01528086\n", ""), (done.status, done.out, done.err))
         with open(os.path.join(self.room, "top", "called")) as file:
-            self.assertEqual("check console\n", file.read())
+            self.assertEqual("run in console\n", file.read())
+
+    def test_what_rt_has_built_already(self):
+        words, environment = self.door(rt="exit 1")
+        out = os.path.join(self.room, "top", "crates", "console", "out")
+        os.makedirs(out)
+        shutil.copyfile(os.path.join(TOP, "target", "bin", "console"), os.path.join(out, "console"))
+        os.chmod(os.path.join(out, "console"), 0o755)
+        done = run(words + ["run", "-"], "R 00 F\n", env=environment)
+        self.assertEqual((0, "OK 01528086\n", ""), (done.status, done.out, done.err))
 
     def test_what_is_not_proved(self):
-        words, environment = self.door(rt="echo 'rt: bits proved (1 s)'; echo 'rt: map NOT PROVED (exit 1, 2 s)'; echo 'rt: FAILED: map'; exit 1")
-        self.refused(run(words + ["run", "-"], "R 00 F\n", env=environment), "map NOT PROVED")
+        words, environment = self.door(rt="echo 'rt: chose --jobs 2 for map'; echo 'fn map::class_of: not proved'; echo 'rt: the library map did not build, so nothing above it was checked'; exit 1")
+        self.refused(run(words + ["run", "-"], "R 00 F\n", env=environment), "fn map::class_of: not proved")
+
+    def test_a_program_that_fails_is_built_all_the_same(self):
+        words, environment = self.door(rt=f"mkdir out; cp {TOP}/target/bin/console out/; echo 'rt: running out/console'; echo error; exit 3")
+        done = run(words + ["run", "-"], "R 00 F\n", env=environment)
+        self.assertEqual((0, "OK 01528086\n"), (done.status, done.out), str(done))
 
     def test_rt_is_missing(self):
         words, environment = self.door()

@@ -1,7 +1,7 @@
 -- An access of the dword at offset o with lanes l: which bytes it enables, and what is asked of it before it is made.
 use Rattle.std.specs.Prelude.{Bool, not, ℕ, ◌+◌, ◌-◌, ◌/◌, ◌%◌, ◌^◌}
 use Rattle.bits.specs.Bits.{bit}
-use Rattle.bits.specs.Choice.{if◌then◌else◌, ◌and◌, ◌or◌, ◌is◌, ◌≤?◌, ◌<?◌}
+use Rattle.bits.specs.Choice.{when◌then◌else◌, ◌and◌, ◌or◌, ◌is◌, ◌≤?◌, ◌<?◌}
 use Rattle.answer.specs.Refusals.{Reply, fine, ok, no, LANES}
 use Rattle.answer.specs.Said.{number_of}
 use Rattle.access.specs.declared.Admitted.{Admitted}
@@ -29,8 +29,8 @@ bad_lanes l = 15 <? l
 
 abbrev pub admit : {A : Type 0} → Bool → ℕ → ℕ → (ℕ → A) → A → A
 admit bad n l refuse made =
-    if bad then refuse n
-    else if bad_lanes l then refuse LANES
+    when bad then refuse n
+    else when bad_lanes l then refuse LANES
     else made
 
 abbrev pub reply_at : Bool → ℕ → ℕ → ℕ → Reply

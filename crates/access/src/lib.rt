@@ -1,4 +1,6 @@
 // What is asked of an access before it is made: its offset, then its lanes. Every access with lanes goes through here.
+#![tactic(auto)]
+
 ghost use Rattle.std.specs.Prelude.{◌≡◌};
 ghost use Rattle.answer.specs.Refusals.{fine, no, OFFSET};
 ghost use Rattle.answer.specs.Said.{number_of};
@@ -7,7 +9,7 @@ ghost use Rattle.access.specs.Access.{bad_offset, admit, admits};
 use answer::Refusal;
 
 // What is asked of an access before it is made.
-#[derive(Drop)]
+#[derive(Clone, Copy)]
 pub enum Admitted {
     Yes,
     No(Refusal),

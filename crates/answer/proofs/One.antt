@@ -1,7 +1,7 @@
 -- What is said fixes the answer: no two answers say the same, and no two refusals have one number.
 use mathlib.Core.Path.{◌≡◌, refl, ap}
 use Prim.Native.Nat.{ℕ}
-use Rattle.bits.specs.Choice.{if◌then◌else◌, ◌is◌}
+use Rattle.bits.specs.Choice.{when◌then◌else◌, ◌is◌}
 use Rattle.answer.specs.Refusals.{Reply, fine, ok, no, LENGTH, WIDTH, NOT_OURS, OTHER_FUNCTION, OFFSET, LANES, NOT_HOST, NO_RANGE, LINE, POINTER, ENDLESS, SHEET_LENGTH, SHEET_CONTENTS, SHEET_BODY}
 use Rattle.answer.specs.Said.{number_of, says}
 use Rattle.answer.specs.declared.Refusal.{Refusal}
@@ -14,20 +14,20 @@ use Rattle.answer.proofs.Agree.{one_answer}
 
 abbrev refusal_of : ℕ → Refusal
 refusal_of n =
-    if n is LENGTH then R.Length
-    else if n is WIDTH then R.Width
-    else if n is NOT_OURS then R.NotOurs
-    else if n is OTHER_FUNCTION then R.OtherFunction
-    else if n is OFFSET then R.Offset
-    else if n is LANES then R.Lanes
-    else if n is NOT_HOST then R.NotHost
-    else if n is NO_RANGE then R.NoRange
-    else if n is LINE then R.Line
-    else if n is POINTER then R.Pointer
-    else if n is ENDLESS then R.Endless
-    else if n is SHEET_LENGTH then R.SheetLength
-    else if n is SHEET_CONTENTS then R.SheetContents
-    else if n is SHEET_BODY then R.SheetBody
+    when n is LENGTH then R.Length
+    else when n is WIDTH then R.Width
+    else when n is NOT_OURS then R.NotOurs
+    else when n is OTHER_FUNCTION then R.OtherFunction
+    else when n is OFFSET then R.Offset
+    else when n is LANES then R.Lanes
+    else when n is NOT_HOST then R.NotHost
+    else when n is NO_RANGE then R.NoRange
+    else when n is LINE then R.Line
+    else when n is POINTER then R.Pointer
+    else when n is ENDLESS then R.Endless
+    else when n is SHEET_LENGTH then R.SheetLength
+    else when n is SHEET_CONTENTS then R.SheetContents
+    else when n is SHEET_BODY then R.SheetBody
     else R.WindowOffset
 
 refusal_heard : (r : Refusal) → refusal_of (number_of r) ≡ r

@@ -1,6 +1,6 @@
 -- The paper's table 'Refusal numbers', those of the change requests, and what an entry says.
 -- Which definition decides each:
---    1 LENGTH           walkOf (walk, Walk)
+--    1 LENGTH           walk_of (walk, Walk)
 --    2 WIDTH            bad_width (rules, Ports)
 --    3 NOT_OURS         not_ours (rules, Ports)
 --    4 OTHER_FUNCTION   other_function (rules, Ports)
@@ -8,7 +8,7 @@
 --    6 LANES            bad_lanes, admit (rules, Access)
 --    7 NOT_HOST         not_host (rules, Host); in the window beyond (rules, Window); of a sheet's device outside (rules, Plain)
 --    8 NO_RANGE         probe_of, ranged (probe, Probe)
---    9 LINE             readBy (line_forms, Read), by the rows that a program takes (line_table, sheet_lines); of the door asked_at (door_table, Door)
+--    9 LINE             read_by (line_forms, Read), by the rows that a program takes (line_table, sheet_lines); of the door asked_at (door_table, Door)
 --   10 POINTER          stops (walk, Walk)
 --   11 ENDLESS          walk_from (walk, Walk)
 --   12 SHEET_LENGTH, 13 SHEET_CONTENTS, 14 SHEET_BODY    check_of, sheet_no (sheet_rules, Check)

@@ -1,8 +1,10 @@
 // The paper's refusals, what an entry answers, and the number of a refusal. A refusal more is a line here, one in `number` and one in specs/Said.antt.
+#![tactic(auto)]
+
 ghost use Rattle.std.specs.Prelude.{◌≡◌};
 ghost use Rattle.answer.specs.Said.{number_of};
 
-#[derive(Drop)]
+#[derive(Clone, Copy)]
 pub enum Refusal {
     Length,
     Width,
@@ -22,7 +24,7 @@ pub enum Refusal {
 }
 
 // Accepted; accepted with a value; refused.
-#[derive(Drop)]
+#[derive(Clone, Copy)]
 pub enum Answer {
     Done,
     Value(u32),

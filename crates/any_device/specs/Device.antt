@@ -2,7 +2,7 @@
 -- A deed is an event that was accepted and not dropped; refusals 5 and 6, the port latch and busy phases are a machine's own, and refusal 7 is here.
 use Rattle.std.specs.Prelude.{List, [], ◌∷◌, Bool, true, false, not, ℕ, suc, ◌+◌, get_or}
 use Rattle.bits.specs.Bits.{bit}
-use Rattle.bits.specs.Choice.{if◌then◌else◌, ◌and◌, ◌is◌, ◌≤?◌, ◌<?◌, any_below}
+use Rattle.bits.specs.Choice.{when◌then◌else◌, ◌and◌, ◌is◌, ◌≤?◌, ◌<?◌, any_below}
 use Rattle.bits.specs.Places.{from, bytes}
 use Rattle.access.specs.Access.{enabled, byte_for}
 use Rattle.past.specs.Past.{Given, nothing, given, or_held}
@@ -38,7 +38,7 @@ span a n = record { at = a; size = n }
 -- fields in the order of their numbers, from n on
 abbrev pub place_in : ℕ → List Span → ℕ → ℕ
 place_in n [] i = 0
-place_in n (f ∷ fs) i = if f.at ≤? i and i <? f.at + f.size then suc n else place_in (suc n) fs i
+place_in n (f ∷ fs) i = when f.at ≤? i and i <? f.at + f.size then suc n else place_in (suc n) fs i
 
 unfoldable pub places_of : List Span → List ℕ
 places_of fs = bytes (place_in 0 fs)
@@ -74,7 +74,7 @@ is_closed c f = not (get_or c f 0 is 0)
 
 -- a flag that is up keeps its number
 abbrev pub raised : Bool → ℕ → ℕ
-raised b was = if b and was is 0 then 1 else was
+raised b was = when b and was is 0 then 1 else was
 
 -- all of them stand
 abbrev pub locked : List ℕ → List Stands → Bool
@@ -84,7 +84,7 @@ locked m (c ∷ cs) = held m c.byte c.place is c.value and locked m cs
 -- what a bit that is written or masked is given: itself, or of write-one-to-clear what its 1 makes
 abbrev pub offered : Bool → ℕ → ℕ → Given
 offered false x w = given w
-offered true x w = if w is 1 then given x else nothing
+offered true x w = when w is 1 then given x else nothing
 
 module _ {K P : Type 0} (d : Device K P) where
   abbrev pub class_of : State P → ℕ → ℕ → Class K
@@ -96,7 +96,7 @@ module _ {K P : Type 0} (d : Device K P) where
   -- ---- a read
 
   unfoldable pub shown_bit : State P → Bits
-  shown_bit s i j = if (class_of s i j).computed then d.computes s.bytes i j else held s.bytes i j
+  shown_bit s i j = when (class_of s i j).computed then d.computes s.bytes i j else held s.bytes i j
 
   -- ---- a guest write of v to the dword at o, with lanes l
 
@@ -110,10 +110,10 @@ module _ {K P : Type 0} (d : Device K P) where
 
   -- what the bit written, w, gives; a 1 clears where that is the rule
   abbrev pub written : State P → ℕ → ℕ → Class K → Given
-  written s b w c = if held_back s b c.stored then nothing else offered c.clears 0 w
+  written s b w c = when held_back s b c.stored then nothing else offered c.clears 0 w
 
   unfoldable pub stored_bit : State P → ℕ → ℕ → ℕ → Bits
-  stored_bit s o l v i j = or_held (if enabled o l i then written s (byte_for o v i) (bit (byte_for o v i) j) (class_of s i j) else nothing) (held s.bytes i j)
+  stored_bit s o l v i j = or_held (when enabled o l i then written s (byte_for o v i) (bit (byte_for o v i) j) (class_of s i j) else nothing) (held s.bytes i j)
 
   -- what the special rules then clear
   unfoldable pub swept : List ℕ → ℕ → ℕ → Stored K → Bool
@@ -124,7 +124,7 @@ module _ {K P : Type 0} (d : Device K P) where
   swept m o l (special k) = d.sweeps k m o l
 
   unfoldable pub written_bit : State P → ℕ → ℕ → ℕ → Bits
-  written_bit s o l v i j = if swept (made (stored_bit s o l v)) o l (class_of s i j).stored then 0 else stored_bit s o l v i j
+  written_bit s o l v i j = when swept (made (stored_bit s o l v)) o l (class_of s i j).stored then 0 else stored_bit s o l v i j
 
   -- the write enables a byte of the field
   unfoldable pub touches : ℕ → ℕ → ℕ → Bool
@@ -146,7 +146,7 @@ module _ {K P : Type 0} (d : Device K P) where
 
   -- masked bits take the value's bits; a 1 sets where a guest's clears
   unfoldable pub updated_bit : State P → ℕ → ℕ → ℕ → Bits
-  updated_bit s o m v i j = or_held (if i is o and bit m j is 1 then offered (class_of s i j).clears 1 (bit v j) else nothing) (held s.bytes i j)
+  updated_bit s o m v i j = or_held (when i is o and bit m j is 1 then offered (class_of s i j).clears 1 (bit v j) else nothing) (held s.bytes i j)
 
   -- ---- the end of a function reset
 
@@ -166,6 +166,6 @@ module _ {K P : Type 0} (d : Device K P) where
   unfoldable pub perform : Deed P → State P → State P
   perform idle s = s
   perform (guest o l v) s = holding s (written_bit s o l v) (closed_after o l s.closed)
-  perform (host w o m v) s = if not_hosted s.platform w o m then s else holding s (updated_bit s o m v) s.closed
+  perform (host w o m v) s = when not_hosted s.platform w o m then s else holding s (updated_bit s o m v) s.closed
   perform return s = holding s (ended_bit s) s.closed
   perform (anew p) s = fresh p

@@ -1,7 +1,7 @@
 -- Write-once in the paper's words: the first write that touches the field since the last platform reset, its enabled bytes over the default.
 use Rattle.std.specs.Prelude.{◌≡◌, List, false, ℕ, ◌<◌}
 use Rattle.bits.specs.Bits.{bit}
-use Rattle.bits.specs.Choice.{if◌then◌else◌}
+use Rattle.bits.specs.Choice.{when◌then◌else◌}
 use Rattle.access.specs.Access.{enabled, byte_for}
 use Rattle.past.specs.Past.{ran}
 use Rattle.any_device.specs.Class.{once, none, Class}
@@ -26,7 +26,7 @@ or_first (first o l v) f = first o l v
 module _ {P : Type 0} where
   abbrev pub remember : Touch P → Deed P → Since P → Since P
   remember t idle y = y
-  remember t (guest o l v) y = record { platform = y.platform; write = or_first y.write (if t y.platform o l then first o l v else no_write) }
+  remember t (guest o l v) y = record { platform = y.platform; write = or_first y.write (when t y.platform o l then first o l v else no_write) }
   remember t (host w o m v) y = y
   remember t return y = y
   remember t (anew p) y = record { platform = p; write = no_write }
@@ -37,7 +37,7 @@ module _ {K P : Type 0} (d : Device K P) where
     where
       over : First → ℕ
       over no_write = default_bit d y.platform i j
-      over (first o l v) = if enabled o l i then bit (byte_for o v i) j else default_bit d y.platform i j
+      over (first o l v) = when enabled o l i then bit (byte_for o v i) j else default_bit d y.platform i j
 
   abbrev pub first_since : ℕ → P → List (Deed P) → Since P
   first_since f p ds = ran (remember (touching d f)) (record { platform = p; write = no_write }) ds

@@ -1,7 +1,7 @@
 -- The history of each kind of bit, from the deeds alone: no state is asked, nor the table of places that a machine goes by.
 use Rattle.std.specs.Prelude.{◌≡◌, List, Bool, true, false, not, ℕ, suc, ◌+◌, ◌<◌, get_or}
 use Rattle.bits.specs.Bits.{bit}
-use Rattle.bits.specs.Choice.{if◌then◌else◌, ◌and◌, ◌or◌, ◌is◌, any_below}
+use Rattle.bits.specs.Choice.{when◌then◌else◌, ◌and◌, ◌or◌, ◌is◌, any_below}
 use Rattle.access.specs.Access.{enabled, byte_for}
 use Rattle.past.specs.Past.{Given, nothing, given, or_held, ran, last_given}
 use Rattle.plain.specs.Plain.{held}
@@ -51,9 +51,9 @@ module _ {K P : Type 0} (d : Device K P) where
   module _ (k : Kind K P) (i j : ℕ) where
     unfoldable pub gives : Told P → Deed P → Given
     gives x idle = nothing
-    gives x (guest o l v) = if enabled o l i then k.guest_gives x (bit (byte_for o v i) j) else nothing
-    gives x (host w o m v) = if not (not_hosted d x.platform w o m) and i is o and bit m j is 1 then k.host_gives (bit v j) else nothing
-    gives x return = if (d.class x.platform i j).returned then given (default_bit d x.platform i j) else nothing
+    gives x (guest o l v) = when enabled o l i then k.guest_gives x (bit (byte_for o v i) j) else nothing
+    gives x (host w o m v) = when not (not_hosted d x.platform w o m) and i is o and bit m j is 1 then k.host_gives (bit v j) else nothing
+    gives x return = when (d.class x.platform i j).returned then given (default_bit d x.platform i j) else nothing
     gives x (anew p) = given (default_bit d p i j)
 
     -- the last that was given
@@ -80,7 +80,7 @@ module _ {K P : Type 0} (d : Device K P) where
 
   -- write-one-to-clear: 1 exactly if the last touch was the host's set, and not a guest's 1
   abbrev pub Cleared : Kind K P
-  Cleared = record { guest_gives = λ (x : Told P) (w : ℕ). if w is 1 then given 0 else nothing; host_gives = λ (w : ℕ). if w is 1 then given 1 else nothing; touch = no_field; Fits = λ (c : Class K). (c.stored ≡ always) × (c.clears ≡ true) }
+  Cleared = record { guest_gives = λ (x : Told P) (w : ℕ). when w is 1 then given 0 else nothing; host_gives = λ (w : ℕ). when w is 1 then given 1 else nothing; touch = no_field; Fits = λ (c : Class K). (c.stored ≡ always) × (c.clears ≡ true) }
 
   -- a byte of the write-once field f, by the rows
   unfoldable pub of_field : P → ℕ → ℕ → Bool
@@ -92,7 +92,7 @@ module _ {K P : Type 0} (d : Device K P) where
 
   -- write-once: what the first write that touched the field carried, since the last platform reset: one before which none did
   abbrev pub WriteOnce : ℕ → Kind K P
-  WriteOnce f = record { guest_gives = λ (x : Told P) (w : ℕ). if x.touched then nothing else given w; host_gives = λ (w : ℕ). nothing; touch = touching f; Fits = λ (c : Class K). (c.stored ≡ once f) × (c.clears ≡ false) × (c.host ≡ none) }
+  WriteOnce f = record { guest_gives = λ (x : Told P) (w : ℕ). when x.touched then nothing else given w; host_gives = λ (w : ℕ). nothing; touch = touching f; Fits = λ (c : Class K). (c.stored ≡ once f) × (c.clears ≡ false) × (c.host ≡ none) }
 
   -- what write-once asks of a device: the table of places says what the rows say
   abbrev pub Placed : Type 0

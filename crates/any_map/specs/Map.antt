@@ -1,7 +1,7 @@
 -- Any map: rows of registers over any type of class, the class of each bit, and the tables.
 use Rattle.std.specs.Prelude.{List, [], ◌∷◌, ◌++◌, Bool, true, ℕ, ◌+◌, ◌-◌, ◌*◌, ◌/◌, ◌%◌, ◌^◌, get_or}
 use Rattle.bits.specs.Bits.{bit, byte_of}
-use Rattle.bits.specs.Choice.{if◌then◌else◌, ◌and◌, ◌is◌, ◌≤?◌, ◌<?◌, mark, all_below}
+use Rattle.bits.specs.Choice.{when◌then◌else◌, ◌and◌, ◌is◌, ◌≤?◌, ◌<?◌, mark, all_below}
 use Rattle.bits.specs.Places.{bytes}
 
 -- the bits under a mask have a class
@@ -48,11 +48,11 @@ module _ {C : Type 0} where
   -- a byte that no row has is a register of its own, 0
   abbrev pub row_in : List (Row C) → ℕ → Row C
   row_in [] i = row i 1 0 []
-  row_in (r ∷ rs) i = if has r i then r else row_in rs i
+  row_in (r ∷ rs) i = when has r i then r else row_in rs i
 
   abbrev pub class_in : C → Rule C → ℕ → C
   class_in c [] b = c
-  class_in c (p ∷ ps) b = if bit p.mask b is 1 then p.class else class_in c ps b
+  class_in c (p ∷ ps) b = when bit p.mask b is 1 then p.class else class_in c ps b
 
   unfoldable pub row_at : Map C → ℕ → Row C
   row_at m i = row_in m.rows i
@@ -101,7 +101,7 @@ module _ {C : Type 0} where
 
   abbrev pub parts_at : List (Row C) → ℕ → ℕ → ℕ
   parts_at [] i j = 0
-  parts_at (r ∷ rs) i j = (if has r i then parts_of r.rule (8 * (i - r.at) + j) else 0) + parts_at rs i j
+  parts_at (r ∷ rs) i j = (when has r i then parts_of r.rule (8 * (i - r.at) + j) else 0) + parts_at rs i j
 
   -- every class that the map names passes
   abbrev pub each_part : (C → Bool) → Rule C → Bool

@@ -1,11 +1,13 @@
 // What a line of the console or a number of the door asks: that something happens, a look at what is there, or nothing; and what is then told. This crate has no code.
+#![tactic(auto)]
+
 use answer::Answer;
 use probe::Probed;
 use rules::{Claim, Event, State};
 use walk::Found;
 
 // What only looks: which window claims a memory address or a port, the size that a probe's two dwords say, and where the capability list has an ID.
-#[derive(Drop)]
+#[derive(Clone, Copy)]
 pub enum Look {
     Memory(u64),
     Port(u16),
@@ -13,7 +15,7 @@ pub enum Look {
     Walk(u8),
 }
 
-#[derive(Drop)]
+#[derive(Clone, Copy)]
 pub enum Asked {
     Event(Event),
     Look(Look),
@@ -21,21 +23,21 @@ pub enum Asked {
 }
 
 // What a look shows: a claim, a range, or how a walk ended and its count.
-#[derive(Drop)]
+#[derive(Clone, Copy)]
 pub enum Shown {
     Claimed(Claim),
     Range(Probed),
     Item(Found, u32),
 }
 
-#[derive(Drop)]
+#[derive(Clone, Copy)]
 pub enum Told {
     Answer(Answer),
     Shown(Shown),
 }
 
 // What is told, and the state afterwards.
-#[derive(Drop)]
+#[derive(Clone, Copy)]
 pub struct Replied {
     pub told: Told,
     pub state: State,

@@ -8,7 +8,7 @@ use lib.Dec.{eqb}
 use lib.ListN.{get_or}
 use lib.Pow.{shl-shr, shr-shr}
 use Rattle.bits.specs.Bits.{bit, little, joined}
-use Rattle.bits.specs.Choice.{if◌then◌else◌, ◌is◌}
+use Rattle.bits.specs.Choice.{when◌then◌else◌, ◌is◌}
 use Rattle.bits.proofs.Laws.{bit<2, little_bits, joined_little, number_above}
 use Rattle.map.specs.Registers.{PCICMD2, GTTMMADR, GMADR, IOBAR, MSAC}
 use Rattle.rules.specs.declared.State.{State}
@@ -54,10 +54,10 @@ module _ (s : State) (b : (i : ℕ) → byte s i < 2 ^ 8) where
   unfolding aperture_claim aperture_of in_aperture
   aperture_is code a = rw (holds_is GMADR 8 4 (exponent_of code) a (omega arith))
 
-  pub memory_is : (a : ℕ) → memory_claim_of s a ≡ if bit (byte s PCICMD2) 1 is 0 then unclaimed else if off s then unclaimed else memory_of s.bytes a
+  pub memory_is : (a : ℕ) → memory_claim_of s a ≡ when bit (byte s PCICMD2) 1 is 0 then unclaimed else when off s then unclaimed else memory_of s.bytes a
   unfolding memory_claim_of memory_of
   memory_is a = rw (holds_is GTTMMADR 8 4 translation_exponent a (omega arith), aperture_is (size_of (byte s MSAC)) a)
 
-  pub io_is : (p : ℕ) → io_claim_of s p ≡ if bit (byte s PCICMD2) 0 is 0 then unclaimed else if off s then unclaimed else io_of s.bytes p
+  pub io_is : (p : ℕ) → io_claim_of s p ≡ when bit (byte s PCICMD2) 0 is 0 then unclaimed else when off s then unclaimed else io_of s.bytes p
   unfolding io_claim_of io_of
   io_is p = rw (holds_is IOBAR 4 2 io_exponent p (omega arith))

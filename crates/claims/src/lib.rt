@@ -1,4 +1,6 @@
 // Which window claims a memory address or a port, with the offset inside.
+#![tactic(auto)]
+
 ghost use Rattle.std.specs.Prelude.{◌≡◌, ◌+◌, ◌%◌, ◌^◌, ◌<◌, ◌≤◌};
 ghost use Rattle.rules.specs.Access.{up};
 ghost use Rattle.rules.specs.Claims.{memory_claim_of, io_claim_of};

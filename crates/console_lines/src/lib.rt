@@ -1,4 +1,6 @@
 // The console, over a state by value: a line answered, and a text of lines.
+#![tactic(auto)]
+
 ghost use Rattle.std.specs.Prelude.{◌≡◌, [], ◌++◌, min, ◌+◌, ◌-◌, ◌*◌, ◌≤◌, length, take, drop};
 ghost use Rattle.asked.specs.Asked.{told_says};
 ghost use Rattle.text_shown.specs.Answers.{said_text};
@@ -20,7 +22,7 @@ fn put(out: &mut [u8], o: usize, t: Told) -> usize
     }
 }
 
-#[derive(Drop)]
+#[derive(Clone, Copy)]
 pub struct Replied {
     pub filled: usize,
     pub state: State,
@@ -41,7 +43,7 @@ pub fn reply(s: State, l: &[u8], out: &mut [u8], o: usize) -> Replied
     Replied { filled, state }
 }
 
-#[derive(Drop)]
+#[derive(Clone, Copy)]
 pub struct Rest {
     pub at: usize,
     pub filled: usize,

@@ -1,8 +1,11 @@
 // Console lines from standard input, a block at a time: what they say, and the state after them.
+#![tactic(auto)]
+
 ghost use Rattle.std.specs.Prelude.{◌≡◌, length};
 ghost use Rattle.console_session.specs.Turns.{Led};
 
 use rules::State;
+use std::io::Input;
 
 // What is kept of a line, and a block.
 pub fn in_buffer() -> [u8; 4123]
@@ -19,22 +22,28 @@ pub fn out_buffer() -> [u8; 98952]
 }
 
 // The state, and whether the input has ended.
-#[derive(Drop)]
+#[derive(Clone, Copy)]
 pub struct Listened {
     pub state: State,
     pub over: bool,
 }
 
 // The answers go out where they are wanted; whether they were taken.
-fn answer(is_loud: bool, text: &[u8]) -> bool {
+fn answer<R: Print + Eprint + AllocGlobal>(rt: &R, is_loud: bool, text: &[u8]) -> bool {
     if !is_loud {
         return true;
     }
-    streams::put(text)
+    streams::put(rt, text)
 }
 
 // Hears lines until the input ends or something fails.
-pub fn listen(s: State, is_loud: bool, buf: &mut [u8], out: &mut [u8]) -> Listened
+pub fn listen<R: Input + Print + Eprint + AllocGlobal>(
+    rt: &R,
+    s: State,
+    is_loud: bool,
+    buf: &mut [u8],
+    out: &mut [u8],
+) -> Listened
     requires { (length buf.old ≡ 4123) × (length out.old ≡ 98952) }
     ensures led { Led result.over s result.state }
     ensures out_len { length out.new ≡ 98952 }
@@ -43,10 +52,10 @@ pub fn listen(s: State, is_loud: bool, buf: &mut [u8], out: &mut [u8]) -> Listen
     let mut k: usize = 0;
     let mut turns = streams::endless();
     while turns > 0 {
-        let t = console_turns::turn(state, buf, k, out);
+        let t = console_turns::turn(rt, state, buf, k, out);
         state = t.state;
         let n = t.filled;
-        let is_taken = answer(is_loud, &out[..n]);
+        let is_taken = answer(rt, is_loud, &out[..n]);
         if !t.on {
             return Listened {
                 state,

@@ -1,11 +1,14 @@
 // A turn of a program that hears console lines: a block of standard input, what its lines say, and the state after them.
+#![tactic(auto)]
+
 ghost use Rattle.std.specs.Prelude.{◌≡◌, ◌≤◌, length, take};
 ghost use Rattle.console_turns.specs.Turn.{Turned};
 
 use rules::State;
+use std::io::Input;
 
 // The answers are the first `filled` bytes of the buffer for them; `on` says that more may come, `over` that the input has ended; neither, that the read failed.
-#[derive(Drop)]
+#[derive(Clone, Copy)]
 pub struct Heard {
     pub filled: usize,
     pub kept: usize,
@@ -42,12 +45,18 @@ fn last(s: State, buf: &[u8], k: usize, out: &mut [u8]) -> Heard
 }
 
 // Reads once, answers each line that is complete, and keeps the unfinished one. Where the read fails nothing is carried out.
-pub fn turn(s: State, buf: &mut [u8], k: usize, out: &mut [u8]) -> Heard
+pub fn turn<R: Input + Eprint + AllocGlobal>(
+    rt: &R,
+    s: State,
+    buf: &mut [u8],
+    k: usize,
+    out: &mut [u8],
+) -> Heard
     requires { (k ≤ 27) × (length buf.old ≡ 4123) × (length out.old ≡ 98952) }
     ensures kept_bound { (result.kept ≤ 27) × (result.filled ≤ 98952) × (length buf.new ≡ 4123) × (length out.new ≡ 98952) }
     ensures turned { Turned result.on result.over s (take k buf.old) result.state (take result.filled out.new) (take result.kept buf.new) }
 {
-    let got = streams::fill(buf, k);
+    let got = streams::fill(rt, buf, k);
     if got.failed {
         return Heard {
             filled: 0,

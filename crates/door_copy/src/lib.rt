@@ -1,4 +1,6 @@
 // An event or a look over a copy of the state that lent bytes and what stands beside them make.
+#![tactic(auto)]
+
 ghost use Rattle.std.specs.Prelude.{◌≡◌};
 ghost use Rattle.asked.specs.Asked.{sight_of, response_of};
 ghost use Rattle.door_told.specs.Heard.{heard, heard_of};

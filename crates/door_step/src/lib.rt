@@ -1,4 +1,6 @@
 // One function for every operation, over the bytes of a lent record.
+#![tactic(auto)]
+
 ghost use Rattle.std.specs.Prelude.{◌≡◌};
 ghost use Rattle.asked.specs.Asked.{response_of};
 ghost use Rattle.door_told.specs.Heard.{heard};

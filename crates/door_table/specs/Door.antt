@@ -1,6 +1,6 @@
 -- The door's numbers as a table: a number, which arguments it takes, and what it asks.
 use Rattle.std.specs.Prelude.{Bool, true, List, [], ◌∷◌, ℕ, ◌+◌, ◌*◌, ◌^◌}
-use Rattle.bits.specs.Choice.{if◌then◌else◌, ◌and◌, ◌is◌, ◌≤?◌}
+use Rattle.bits.specs.Choice.{when◌then◌else◌, ◌and◌, ◌is◌, ◌≤?◌}
 use Rattle.rules.specs.declared.Event.TheVariants as E
 use Rattle.rules.specs.declared.WindowEvent.{WindowEvent}
 use Rattle.rules.specs.declared.WindowEvent.TheVariants as W
@@ -60,5 +60,5 @@ doors =
 abbrev pub asked_at : List Door → ℕ → ℕ → ℕ → ℕ → Asked
 asked_at [] op a b c = Q.Nothing
 asked_at (d ∷ ds) op a b c =
-    if op is d.number then (if d.takes a b c then d.asks a b c else Q.Nothing)
+    when op is d.number then (when d.takes a b c then d.asks a b c else Q.Nothing)
     else asked_at ds op a b c

@@ -1,4 +1,6 @@
 // What an operation's number and three arguments ask.
+#![tactic(auto)]
+
 ghost use Rattle.std.specs.Prelude.{◌≡◌};
 ghost use Rattle.door_table.specs.Door.{doors, asked_at};
 

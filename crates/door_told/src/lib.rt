@@ -1,4 +1,6 @@
 // What a caller outside is told: a refusal's number, or 0, and a value; and both in one number.
+#![tactic(auto)]
+
 ghost use Rattle.std.specs.Prelude.{◌≡◌, ◌+◌, ◌*◌, ◌^◌};
 ghost use Rattle.answer.specs.Said.{number_of, says};
 ghost use Rattle.rules.specs.Answers.{claim_says};
@@ -16,7 +18,7 @@ use rules::Claim;
 use walk::Found;
 
 // A refusal's number, or 0, and the two halves of a value.
-#[derive(Drop)]
+#[derive(Clone, Copy)]
 pub struct Parts {
     pub number: u16,
     pub high: u16,

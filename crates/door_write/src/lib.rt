@@ -1,4 +1,6 @@
 // A guest write over the bytes of a lent record: for the door, and for the record alone, also by value.
+#![tactic(auto)]
+
 ghost use Rattle.std.specs.Prelude.{◌≡◌};
 ghost use Rattle.map.specs.Map.{guests};
 ghost use Rattle.rules.specs.Guest.{write_of};
@@ -16,7 +18,7 @@ use rules::{Event, Flags, Mapped, State};
 // ---- for the door
 
 // What is told in one number, and what stands beside the bytes afterwards.
-#[derive(Drop)]
+#[derive(Clone, Copy)]
 pub struct Operated {
     pub heard: u64,
     pub latch: u32,
@@ -60,7 +62,7 @@ pub fn write_told(
 // ---- for the record alone
 
 // The refusal's number, or 0, and the state afterwards.
-#[derive(Drop)]
+#[derive(Clone, Copy)]
 pub struct Numbered {
     pub number: u32,
     pub state: State,
@@ -80,7 +82,7 @@ pub fn write(s: State, offset: u32, lanes: u32, value: u32) -> Numbered
     }
 }
 
-#[derive(Drop)]
+#[derive(Clone, Copy)]
 pub struct Stored {
     pub number: u32,
     pub flags: Flags,

@@ -1,103 +1,94 @@
 // Text, upper-case hex as in the paper, accesses and answers, on standard output.
+#![tactic(auto)]
+
 use answer::Answer;
-use libc::STDOUT_FILENO;
+use std::io;
 
 // ---- writing
 
-pub fn text(s: &[u8]) {
-    io::write_all(STDOUT_FILENO, s);
+pub fn text<R: Print>(rt: &R, s: &[u8]) -> io::Result<()> {
+    rt.write_all(s)
 }
 
-pub fn decimal(n: u32) {
-    io::print_decimal(STDOUT_FILENO, n as u64);
+pub fn decimal<R: Print>(rt: &R, n: u32) -> io::Result<()> {
+    print!(rt; "{n}")
 }
 
-pub fn refused(number: u32) {
-    text(b": refusal ");
-    decimal(number);
-}
-
-// The lowest hex digit of n.
-fn digit(n: u32) -> u8 {
-    let d = (n % 16) as u8;
-    if d < 10 { b'0' + d } else { b'A' - 10 + d }
+pub fn refused<R: Print>(rt: &R, number: u32) -> io::Result<()> {
+    text(rt, b": refusal ")?;
+    decimal(rt, number)
 }
 
 // ---- the low digits of n
 
-pub fn hex1(n: u32) {
-    let one = [digit(n)];
-    text(&one);
+pub fn hex1<R: Print>(rt: &R, n: u32) -> io::Result<()> {
+    print!(rt; "{:X}", n % 16)
 }
 
-pub fn hex2(n: u32) {
-    hex1(n / 16);
-    hex1(n);
+pub fn hex2<R: Print>(rt: &R, n: u32) -> io::Result<()> {
+    print!(rt; "{:02X}", n % 256)
 }
 
-pub fn hex3(n: u32) {
-    hex1(n / 256);
-    hex2(n);
+pub fn hex3<R: Print>(rt: &R, n: u32) -> io::Result<()> {
+    print!(rt; "{:03X}", n % 4096)
 }
 
-pub fn hex4(n: u32) {
-    hex2(n / 256);
-    hex2(n);
+pub fn hex4<R: Print>(rt: &R, n: u32) -> io::Result<()> {
+    print!(rt; "{:04X}", n % 65536)
 }
 
-pub fn hex8(n: u32) {
-    hex4(n / 65536);
-    hex4(n);
+pub fn hex8<R: Print>(rt: &R, n: u32) -> io::Result<()> {
+    print!(rt; "{n:08X}")
 }
 
 // ---- an access
 
-pub fn place(offset: u32, lanes: u32) {
-    hex2(offset);
-    text(b" ");
-    hex1(lanes);
+pub fn place<R: Print>(rt: &R, offset: u32, lanes: u32) -> io::Result<()> {
+    hex2(rt, offset)?;
+    text(rt, b" ")?;
+    hex1(rt, lanes)
 }
 
-pub fn write_line(offset: u32, lanes: u32, value: u32) {
-    text(b"W ");
-    place(offset, lanes);
-    text(b" ");
-    hex8(value);
+pub fn write_line<R: Print>(rt: &R, offset: u32, lanes: u32, value: u32) -> io::Result<()> {
+    text(rt, b"W ")?;
+    place(rt, offset, lanes)?;
+    text(rt, b" ")?;
+    hex8(rt, value)
 }
 
 // ---- its answer
 
-fn word(n: u32) {
-    text(b": ");
-    hex4(n);
+fn word<R: Print>(rt: &R, n: u32) -> io::Result<()> {
+    text(rt, b": ")?;
+    hex4(rt, n)
 }
 
-fn dword(n: u32) {
-    text(b": ");
-    hex8(n);
+fn dword<R: Print>(rt: &R, n: u32) -> io::Result<()> {
+    text(rt, b": ")?;
+    hex8(rt, n)
 }
 
 // A write's: nothing where it is accepted.
-pub fn write_answer(a: Answer) {
+pub fn write_answer<R: Print>(rt: &R, a: Answer) -> io::Result<()> {
     match a {
-        Answer::Done => {}
-        Answer::Value(_) => {}
-        Answer::No(r) => refused(answer::number(r)),
+        Answer::Done => Ok(()),
+        Answer::Value(_) => Ok(()),
+        Answer::No(r) => refused(rt, answer::number(r)),
     }
 }
 
-pub fn read_answer(a: Answer) {
+pub fn read_answer<R: Print>(rt: &R, a: Answer) -> io::Result<()> {
     match a {
-        Answer::Done => {}
-        Answer::Value(v) => dword(v),
-        Answer::No(r) => refused(answer::number(r)),
+        Answer::Done => Ok(()),
+        Answer::Value(v) => dword(rt, v),
+        Answer::No(r) => refused(rt, answer::number(r)),
     }
 }
 
-pub fn port_read_answer(a: Answer) {
+pub fn port_read_answer<R: Print>(rt: &R, a: Answer) -> io::Result<()> {
     match a {
-        Answer::Done => {}
-        Answer::Value(v) => word(v),
-        Answer::No(r) => refused(answer::number(r)),
+        Answer::Done => Ok(()),
+        Answer::Value(v) => word(rt, v),
+        Answer::No(r) => refused(rt, answer::number(r)),
     }
 }

@@ -1,4 +1,6 @@
 // The end of a function reset, over 256 bytes that are lent; and the flags and the window of the fresh state.
+#![tactic(auto)]
+
 ghost use Rattle.std.specs.Prelude.{◌≡◌};
 ghost use Rattle.rules.specs.Fresh.{fresh_flags, fresh_window};
 ghost use Rattle.function_reset.specs.Bytes.{reset_bytes, end_bytes, end_flags};

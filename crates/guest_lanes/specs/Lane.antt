@@ -1,7 +1,7 @@
 -- Which guest bits of a byte a write reaches, as the code finds them.
 use Rattle.std.specs.Prelude.{Bool, false, ℕ, ◌+◌}
 use Rattle.bits.specs.Bits.{blend_k}
-use Rattle.bits.specs.Choice.{if◌then◌else◌, ◌is◌}
+use Rattle.bits.specs.Choice.{when◌then◌else◌, ◌is◌}
 use Rattle.any_map.specs.Map.{mask_at}
 use Rattle.any_device.specs.Class.{Stored, never, always, once, until, special}
 use Rattle.any_device.specs.Device.{is_closed}
@@ -17,7 +17,7 @@ unfoldable pub taken_mask : ℕ → ℕ
 taken_mask code = mask_at (igd ivy_bridge) (λ (k : Class). is_taken code k.stored) (GMADR + 3)
 
 unfoldable pub if_closed : ℕ → ℕ → ℕ
-if_closed flag mask = if flag is 0 then 0 else mask
+if_closed flag mask = when flag is 0 then 0 else mask
 
 -- a guest bit that does not take the bit written, by the flags, the size code that stands and the byte written
 unfoldable pub leaves : Flags → ℕ → ℕ → Stored Special → Bool

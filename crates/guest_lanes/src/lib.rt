@@ -1,4 +1,6 @@
 // Which guest bits of a byte a write reaches: the special rules hold bits back, the guest mask lets the others through.
+#![tactic(auto)]
+
 ghost use Rattle.std.specs.Prelude.{◌≡◌};
 ghost use Rattle.guest_lanes.specs.Lane.{taken_mask, if_closed, held_of, reach_of};
 

@@ -1,4 +1,6 @@
 // A guest read, over 256 bytes that are lent, with the flag that a function reset is under way.
+#![tactic(auto)]
+
 ghost use Rattle.std.specs.Prelude.{◌≡◌, ◌+◌, ◌*◌, ◌%◌, ◌<◌};
 ghost use Rattle.rules.specs.Access.{up};
 ghost use Rattle.answer.specs.Said.{says};

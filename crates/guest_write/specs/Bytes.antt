@@ -1,7 +1,7 @@
 -- A guest write a byte at a time, as the code makes it; proofs/Bridge.antt shows that it comes to the rules.
 use Rattle.std.specs.Prelude.{List, Bool, true, false, ℕ, ◌+◌, ◌/◌, ◌%◌, get_or, set}
 use Rattle.bits.specs.Bits.{blend_k}
-use Rattle.bits.specs.Choice.{if◌then◌else◌, ◌is◌}
+use Rattle.bits.specs.Choice.{when◌then◌else◌, ◌is◌}
 use Rattle.answer.specs.Refusals.{fine, Reply, ok, no, OFFSET, LANES}
 use Rattle.map.specs.Registers.{GMADR, MSAC}
 use Rattle.rules.specs.declared.Flags.{Flags}
@@ -44,7 +44,7 @@ step_bytes guest c m o l v = clear_if (enabled o l MSAC) (stored_bytes guest c m
 
 -- a flag after a write at o, where one at `at` raises it unless hit is 0
 unfoldable pub raised_of : ℕ → ℕ → ℕ → ℕ → ℕ
-raised_of was o at hit = if o is at then (if hit is 0 then was else if was is 0 then 1 else was) else was
+raised_of was o at hit = when o is at then (when hit is 0 then was else when was is 0 then 1 else was) else was
 
 -- ---- the entry
 
@@ -62,7 +62,7 @@ wrote r m = lent (says r.answer) m r.flags
 
 -- dropped while busy
 abbrev pub taken_bytes : List ℕ → Flags → List ℕ → ℕ → ℕ → ℕ → Lent
-taken_bytes guest c m o l v = if up c.busy then lent fine m c else lent fine (step_bytes guest c m o l v) (flags_after o l v c)
+taken_bytes guest c m o l v = when up c.busy then lent fine m c else lent fine (step_bytes guest c m o l v) (flags_after o l v c)
 
 unfoldable pub write_lanes : List ℕ → Flags → List ℕ → ℕ → ℕ → ℕ → Lent
 write_lanes guest c m o l v = admit (bad_offset o) OFFSET l (λ (n : ℕ). lent (no n) m c) (taken_bytes guest c m o l v)

@@ -1,4 +1,6 @@
 // A guest write, over 256 bytes that are lent: a byte lane at a time, under the guest masks that are lent beside them.
+#![tactic(auto)]
+
 ghost use Rattle.std.specs.Prelude.{◌≡◌, ◌+◌, ◌%◌, ◌<◌};
 ghost use Rattle.answer.specs.Refusals.{fine};
 ghost use Rattle.rules.specs.Guest.{flags_after};
@@ -11,7 +13,7 @@ use rules::Flags;
 // The dword that MSAC stands in.
 const MSAC_DWORD: usize = map::MSAC / 4 * 4;
 
-#[derive(Drop)]
+#[derive(Clone, Copy)]
 pub struct Wrote {
     pub answer: Answer,
     pub flags: Flags,

@@ -1,7 +1,7 @@
 -- A host update of one byte, as the code makes it; proofs/Bridge.antt shows that it comes to the rule.
 use Rattle.std.specs.Prelude.{List, not, ℕ, get_or, set}
 use Rattle.bits.specs.Bits.{blend_k}
-use Rattle.bits.specs.Choice.{if◌then◌else◌, ◌is◌, ◌<?◌}
+use Rattle.bits.specs.Choice.{when◌then◌else◌, ◌is◌, ◌<?◌}
 use Rattle.answer.specs.Refusals.{fine, Reply, ok, no, OFFSET, NOT_HOST}
 use Rattle.answer.specs.Said.{says}
 use Rattle.answer.specs.declared.Answer.{Answer}
@@ -27,6 +27,6 @@ updated a m = lent (says a) m
 
 unfoldable pub update_bytes : List ℕ → List ℕ → ℕ → ℕ → ℕ → Lent
 update_bytes host m o mask v =
-    if 255 <? o then lent (no OFFSET) m
-    else if not (outside host o mask is 0) then lent (no NOT_HOST) m
+    when 255 <? o then lent (no OFFSET) m
+    else when not (outside host o mask is 0) then lent (no NOT_HOST) m
     else lent fine (hosted_bytes m o mask v)

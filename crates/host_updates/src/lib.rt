@@ -1,4 +1,6 @@
 // A host update, over 256 bytes that are lent: one byte, under the host masks that are lent beside them.
+#![tactic(auto)]
+
 ghost use Rattle.std.specs.Prelude.{◌≡◌, ◌<◌};
 ghost use Rattle.host_updates.specs.Update.{hosted_bytes, update_bytes, updated};
 

@@ -1,5 +1,7 @@
 // The state lent as one record, and updated where it lies: what a bench in C, or in any language that calls C, links.
-ghost use Rattle.std.specs.Prelude.{◌≡◌};
+#![tactic(auto)]
+
+ghost use Rattle.std.specs.Prelude.{ℕ, ◌≡◌, ◌<◌, slice_index};
 ghost use Rattle.rules.specs.Guest.{write_of};
 ghost use Rattle.rules.specs.Read.{read_of};
 ghost use Rattle.rules.specs.Fresh.{fresh_of};
@@ -12,6 +14,11 @@ ghost use Rattle.door_write.specs.Numbered.{leaves, numbered};
 ghost use Rattle.door_step.specs.Door.{door_of};
 
 use rules::State;
+
+// What is lent are bytes: nothing is done, and the caller has it as a fact.
+fn bytes_fit(m: &[u8])
+    ensures { (i : ℕ) → slice_index m.now i < 256 }
+{}
 
 // A platform reset; also what makes a record the fresh state.
 #[unsafe(no_mangle)]
@@ -27,6 +34,7 @@ pub extern "C" fn twin_platform_reset(s: &mut State)
 pub extern "C" fn twin_write(s: &mut State, offset: u32, lanes: u32, value: u32) -> u32
     ensures { leaves result s.new ≡ numbered (write_of s.old offset lanes value) }
 {
+    bytes_fit(&s.bytes);
     let c = s.flags;
     let w = door_write::put(&mut s.bytes, c, offset, lanes, value);
     s.flags = w.flags;
@@ -48,6 +56,7 @@ pub extern "C" fn twin_write_by_value(s: &mut State, offset: u32, lanes: u32, va
 pub extern "C" fn twin_read(s: &State, offset: u32, lanes: u32) -> u64
     ensures { heard result ≡ heard_of (answer (read_of s.now offset lanes)) }
 {
+    bytes_fit(&s.bytes);
     let c = s.flags;
     door_told::read(&s.bytes, c.busy, offset, lanes)
 }
@@ -57,6 +66,7 @@ pub extern "C" fn twin_read(s: &State, offset: u32, lanes: u32) -> u64
 pub extern "C" fn twin_do(s: &mut State, op: u32, a: u32, b: u32, c: u32) -> u64
     ensures { outside (heard result) s.new ≡ door_of s.old op a b c }
 {
+    bytes_fit(&s.bytes);
     let latch = s.latch;
     let flags = s.flags;
     let window = s.window;

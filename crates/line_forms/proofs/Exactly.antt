@@ -83,6 +83,7 @@ module _ {A : Type 0} (nothing : A) where
   -- ---- what holds of what each row asks holds of what a line asks
 
   row_asks : (P : A → Type 0) (r : Form A) (t : List (Form A)) → Every P t → In r t → (x y z : ℕ) → P (r.asks x y z)
+  row_asks P r [] h x = elim x [ ]
   row_asks P r (_ ∷ t) h here = h.0
   row_asks P r (q ∷ t) h (there i) = row_asks P r t h.1 i
 

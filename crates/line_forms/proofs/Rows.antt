@@ -56,11 +56,13 @@ module _ {A : Type 0} where
   -- ---- what is tested of all rows holds of each
 
   pub each : (p : Form A → Bool) (r : Form A) (t : List (Form A)) → all_rows p t ≡ true → In r t → p r ≡ true
+  each p r [] a x = elim x [ ]
   each p r (_ ∷ t) a here = both_left (p r) (all_rows p t) a
   each p r (q ∷ t) a (there i) = each p r t (both_right (p q) (all_rows p t) a) i
 
   -- where no letter stands twice, each row is found by its letter
   pub found : (r : Form A) (t : List (Form A)) → apart t ≡ true → In r t → find r.name t ≡ some r
+  found r [] a x = elim x [ ]
   found r (_ ∷ t) a here = rw (eq-eqb r.name r.name refl)
   found r (q ∷ t) a (there i) =
       let other = not-true (eqb r.name q.name) (each (λ (s : Form A). not (eqb s.name q.name)) r t (both_left (unnamed q.name t) (apart t) a) i) in

@@ -1,10 +1,10 @@
 -- Upper-case hex: a digit's byte, and the digits of a number.
 use Rattle.std.specs.Prelude.{List, [], ◌∷◌, ℕ, zero, suc, ◌+◌, ◌/◌, ◌%◌, ◌^◌}
-use Rattle.bits.specs.Choice.{if◌then◌else◌, ◌<?◌}
+use Rattle.bits.specs.Choice.{when◌then◌else◌, ◌<?◌}
 
 -- a digit in upper-case hex: 0 is 48, A is 65
 unfoldable pub up_of : ℕ → ℕ
-up_of n = if n <? 10 then 48 + n else 55 + n
+up_of n = when n <? 10 then 48 + n else 55 + n
 
 -- k digits of v, the highest first
 unfoldable pub hex_of : ℕ → ℕ → List ℕ

@@ -1,6 +1,6 @@
 -- A line read at its places, by the row of its letter; Exactly.antt says of what form the lines are that are read.
 use Rattle.std.specs.Prelude.{List, ◌≡◌, ◌⊎◌, ℕ, zero, suc, ◌+◌, ◌-◌, ◌*◌, ◌≤◌, get_or, length}
-use Rattle.bits.specs.Choice.{if◌then◌else◌, ◌is◌, ◌<?◌}
+use Rattle.bits.specs.Choice.{when◌then◌else◌, ◌is◌, ◌<?◌}
 use Rattle.line_forms.specs.declared.Hex.{Hex}
 use Rattle.line_forms.specs.declared.Hex.TheVariants as H
 use Rattle.line_forms.specs.declared.Numbers.{Numbers}
@@ -13,7 +13,7 @@ use Rattle.line_forms.specs.Table.{Form, Row?, none, some, find, InRange, wide}
 
 -- the digit that a byte is in upper-case hex, or 16
 unfoldable pub digit_of : ℕ → ℕ
-digit_of b = if b <? 48 then 16 else if b <? 58 then b - 48 else if b <? 65 then 16 else if b <? 71 then b - 55 else 16
+digit_of b = when b <? 48 then 16 else when b <? 58 then b - 48 else when b <? 65 then 16 else when b <? 71 then b - 55 else 16
 
 abbrev pub at : List ℕ → ℕ → ℕ
 at l i = get_or l i 0
@@ -21,12 +21,12 @@ at l i = get_or l i 0
 -- k digits from place i on, behind the number v
 unfoldable pub hex_from : ℕ → List ℕ → ℕ → ℕ → Hex
 hex_from zero l i v = H.Value v
-hex_from (suc k) l i v = if 15 <? digit_of (at l i) then H.Bad else hex_from k l (i + 1) (v * 16 + digit_of (at l i))
+hex_from (suc k) l i v = when 15 <? digit_of (at l i) then H.Bad else hex_from k l (i + 1) (v * 16 + digit_of (at l i))
 
 -- a space at place i, and k digits behind it
 unfoldable pub field_of : List ℕ → ℕ → ℕ → Hex
 field_of l i zero = H.Value 0
-field_of l i (suc k) = if at l i is letter " " then hex_from (suc k) l (i + 1) 0 else H.Bad
+field_of l i (suc k) = when at l i is letter " " then hex_from (suc k) l (i + 1) 0 else H.Bad
 
 -- ---- the three numbers of a line
 
@@ -44,7 +44,7 @@ joined (H.Value x) g h = second x g h
 
 unfoldable pub numbers_of : List ℕ → Row → Numbers
 numbers_of l r =
-    if length l is r.total then joined (field_of l 1 r.a) (field_of l (1 + wide r.a) r.b) (field_of l (1 + wide r.a + wide r.b) r.c)
+    when length l is r.total then joined (field_of l 1 r.a) (field_of l (1 + wide r.a) r.b) (field_of l (1 + wide r.a + wide r.b) r.c)
     else N.Bad
 
 -- ---- by a row

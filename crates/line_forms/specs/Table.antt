@@ -1,7 +1,7 @@
 -- A table of line forms, for any type A of what a line asks: a row is a letter, the digits of the up to three numbers behind it, and what the line asks.
 use Rattle.std.specs.Prelude.{Bool, true, not, List, [], ◌∷◌, ◌++◌, ℕ, zero, suc, ◌+◌, ◌^◌, ◌<◌}
 use Prim.Native.String.{String}
-use Rattle.bits.specs.Choice.{if◌then◌else◌, ◌is◌, ◌≤?◌, ◌and◌}
+use Rattle.bits.specs.Choice.{when◌then◌else◌, ◌is◌, ◌≤?◌, ◌and◌}
 use Rattle.line_forms.specs.Ascii.{letter}
 use Rattle.line_forms.specs.Hex.{hex_of}
 
@@ -24,7 +24,7 @@ pub data Row? (A : Type 0) : Type 0 where
 
 abbrev pub find : {A : Type 0} → ℕ → List (Form A) → Row? A
 find f [] = none
-find f (r ∷ t) = if f is r.name then some r else find f t
+find f (r ∷ t) = when f is r.name then some r else find f t
 
 -- ---- a line as it is printed
 

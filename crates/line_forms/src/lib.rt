@@ -1,20 +1,21 @@
 // The forms of a line, for any table of them: the types that the definitions speak of. What a line asks, and that it is read exactly when it is of a row's form, is in specs/; this crate has no code.
+#![tactic(auto)]
 
 // A number, and the three of a line.
-#[derive(Drop)]
+#[derive(Clone, Copy)]
 pub enum Hex {
     Value(u64),
     Bad,
 }
 
-#[derive(Drop)]
+#[derive(Clone, Copy)]
 pub enum Numbers {
     Values(u64, u32, u32),
     Bad,
 }
 
 // A row of a table: the length of its line, and the digits of each number, 0 for none.
-#[derive(Drop)]
+#[derive(Clone, Copy)]
 pub struct Row {
     pub total: usize,
     pub a: usize,

@@ -1,4 +1,6 @@
 // The numbers of a line, at the places that a row of any table gives.
+#![tactic(auto)]
+
 ghost use Rattle.std.specs.Prelude.{◌≡◌, ◌+◌, ◌≤◌, length};
 ghost use Rattle.line_forms.specs.Table.{wide};
 ghost use Rattle.line_forms.specs.Read.{digit_of, hex_from, field_of, row_of, Bounded, numbers_of};
@@ -6,6 +8,7 @@ ghost use Rattle.line_forms.specs.Read.{digit_of, hex_from, field_of, row_of, Bo
 use line_forms::{Hex, Numbers, Row};
 
 // The digit that a byte is, in upper-case hex, or 16.
+#[tactic(auto, unfolding(line_forms::specs::Read::digit_of))]
 fn digit(b: u8) -> u8
     ensures { result ≡ digit_of b }
 {

@@ -1,4 +1,6 @@
 // A line as what it asks, by the tables of the player and of the console.
+#![tactic(auto)]
+
 ghost use Rattle.std.specs.Prelude.{◌≡◌};
 ghost use Rattle.line_forms.specs.Table.{find};
 ghost use Rattle.line_forms.specs.Read.{columns_of, asks_of, Fits, read_by};
@@ -10,6 +12,7 @@ use rules::{Event, WindowEvent};
 
 // ---- the row of a letter
 
+#[tactic(auto, unfolding(line_forms::specs::Read::columns_of))]
 fn player_row(f: u8) -> Row
     ensures { result ≡ columns_of (find f player_rows) }
 {
@@ -29,6 +32,7 @@ fn player_row(f: u8) -> Row
 }
 
 // Every other row is the player's.
+#[tactic(auto, unfolding(line_forms::specs::Read::columns_of))]
 fn any_row(f: u8) -> Row
     ensures { result ≡ columns_of (find f rows) }
 {
@@ -51,6 +55,7 @@ fn any_row(f: u8) -> Row
 
 // ---- what the numbers of a row ask
 
+#[tactic(auto, unfolding(line_forms::specs::Read::asks_of, line_forms::specs::Read::Fits))]
 fn player_asks(f: u8, x: u64, y: u32, z: u32) -> Asked
     requires { Fits (find f player_rows) x y z }
     ensures { result ≡ asks_of Asked.Nothing (find f player_rows) x y z }
@@ -65,6 +70,7 @@ fn player_asks(f: u8, x: u64, y: u32, z: u32) -> Asked
     }
 }
 
+#[tactic(auto, unfolding(line_forms::specs::Read::asks_of, line_forms::specs::Read::Fits))]
 fn asks(f: u8, x: u64, y: u32, z: u32) -> Asked
     requires { Fits (find f rows) x y z }
     ensures { result ≡ asks_of Asked.Nothing (find f rows) x y z }

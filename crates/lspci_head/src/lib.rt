@@ -1,4 +1,6 @@
 // The head line of a dump, as `lspci -n -xxx` prints it, and the digits of a byte.
+#![tactic(auto)]
+
 ghost use Rattle.std.specs.Prelude.{◌≡◌, ◌++◌, ◌+◌, ◌%◌, ◌<◌, ◌≤◌, length, take};
 ghost use Rattle.lspci_head.specs.Head.{low_of, low_pair, word_text, rev_text, ids_text, head_text};
 

@@ -1,4 +1,6 @@
 // The 256 bytes as `lspci -n -xxx` prints them, so that `lspci -F FILE` decodes them.
+#![tactic(auto)]
+
 ghost use Rattle.std.specs.Prelude.{◌≡◌, ◌++◌, ◌+◌, ◌<◌, ◌≤◌, length, take};
 ghost use Rattle.lspci_text.specs.Dump.{join_from, cell_text, row_text, dump_text};
 

@@ -7,13 +7,13 @@ use Rattle.map.specs.Registers.{VID2, DID2, PCICMD2, PCISTS2, RID2, CC, GTTMMADR
 use Rattle.map.specs.Class.{Platform, ivy_bridge, svid2, sid2, swsci15, Class, read_only, host, guest, once, size_code, aperture, power_state, computed, reset_start, ◌F, ◌h}
 
 -- every bit that no part has is read-only
-abbrev pub read_only_lem : Rule Class
-read_only_lem = []
+abbrev pub only_read : Rule Class
+only_read = []
 
 --      at, by its name · bytes · default · rule
 unfoldable pub rows : Platform → List (Row Class)
 rows p =
-    row VID2 2 0x8086 read_only_lem ∷
+    row VID2 2 0x8086 only_read ∷
     row DID2 2 0x0152 (host on 0xFFFF) ∷
     row PCICMD2 2 0x0000 (guest on 0x0407 F) ∷
     row PCISTS2 2 0x0090 (host on 0x0008) ∷
@@ -26,9 +26,9 @@ rows p =
     row SID2 2 0x0 (once sid2 on 0xFFFF) ∷
     row CAPPOINT 1 0x90 (computed on 0xFF) ∷
     row INTRLINE 1 0x00 (guest on 0xFF) ∷
-    row INTRPIN 1 0x01 read_only_lem ∷
-    row CAPID0 2 0x0009 read_only_lem ∷
-    row CAPCTRL0 2 0x010C read_only_lem ∷
+    row INTRPIN 1 0x01 only_read ∷
+    row CAPID0 2 0x0009 only_read ∷
+    row CAPCTRL0 2 0x010C only_read ∷
     row CAPID0_A 4 0x0 (host on 0xFFFFFFFF) ∷
     row CAPID0_B 4 0x0 (host on 0xFFFFFFFF) ∷
     row MGGC0 2 0x0028 (host on 0xFFFF) ∷
@@ -38,15 +38,15 @@ rows p =
     row MSAC 1 0x02 (guest on 0xF0 & size_code on 0x06) ∷
     row VTD_STATUS 1 0x0 (host on 0x01) ∷
     row CAPL 1 0x0 (guest on 0x01 h) ∷
-    row MSI_CAPID 2 0xD005 read_only_lem ∷
+    row MSI_CAPID 2 0xD005 only_read ∷
     row MC 2 0x0 (guest on 0x0071 F h) ∷
     row MA 4 0x0 (guest on 0xFFFFFFFC F h) ∷
     row MD 2 0x0 (guest on 0xFFFF F h) ∷
-    row AFCIDNP 2 0x0013 read_only_lem ∷
-    row AFLC 2 0x0306 read_only_lem ∷
+    row AFCIDNP 2 0x0013 only_read ∷
+    row AFLC 2 0x0306 only_read ∷
     row AFCTL 1 0x0 (reset_start on 0x01) ∷
-    row PMCAPID 2 0xA401 read_only_lem ∷
-    row PMCAP 2 0x0022 read_only_lem ∷
+    row PMCAPID 2 0xA401 only_read ∷
+    row PMCAP 2 0x0022 only_read ∷
     row PMCS 2 0x0 (power_state on 0x0003 F h) ∷
     row SWSMI 2 0x0 (guest on 0xFFFF h) ∷
     row GSE 4 0x0 (guest on 0xFFFFFFFF h) ∷

@@ -1,4 +1,6 @@
 // The register map: the constant tables, a byte a place, and the places of the registers that the code names.
+#![tactic(auto)]
+
 ghost use Rattle.std.specs.Prelude.{◌≡◌};
 ghost use Rattle.map.specs.Map.{defaults, guests, hosts, resets};
 

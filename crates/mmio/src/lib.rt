@@ -1,4 +1,6 @@
 // The window inside GTTMMADR, over a state by value: guest read and write.
+#![tactic(auto)]
+
 ghost use Rattle.std.specs.Prelude.{◌≡◌};
 ghost use Rattle.answer.specs.Refusals.{fine, no, WINDOW_OFFSET};
 ghost use Rattle.answer.specs.Said.{says};

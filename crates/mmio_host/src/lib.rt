@@ -1,4 +1,6 @@
 // The host's changes in the window inside GTTMMADR, over a state by value.
+#![tactic(auto)]
+
 ghost use Rattle.std.specs.Prelude.{◌≡◌};
 ghost use Rattle.rules.specs.Answers.{stepped};
 ghost use Rattle.rules.specs.Window.{beyond, masked, faulted, mirror_mask, mirrored, complete_of, fault_of, cycles_of, mirror_update_of};
@@ -69,11 +71,12 @@ pub fn fault(s: State, word: u32) -> Stepped
 }
 
 // The host adds a count to the cycle sum, which wraps past 32 bits.
+#[tactic(auto, unfolding(rules::specs::Window::cycles_of))]
 pub fn add_cycles(s: State, count: u32) -> State
     ensures { result ≡ cycles_of s count }
 {
     let mut t = s;
-    let x = std::num::wrapping_add_u32(t.window.cycles, count);
+    let x = t.window.cycles.wrapping_add(count);
     t.window.cycles = x;
     t
 }

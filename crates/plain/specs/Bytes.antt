@@ -1,7 +1,7 @@
 -- The plain rule a byte at a time, as the code makes it; proofs/Bridge.antt shows that it comes to the rule.
 use Rattle.std.specs.Prelude.{List, ℕ, ◌+◌, ◌*◌, ◌/◌, ◌%◌, get_or}
 use Rattle.bits.specs.Bits.{bit, blend_k}
-use Rattle.bits.specs.Choice.{if◌then◌else◌, ◌is◌}
+use Rattle.bits.specs.Choice.{when◌then◌else◌, ◌is◌}
 use Rattle.bits.specs.Places.{map_n, put4_of}
 use Rattle.plain.specs.Plain.{lane_value}
 
@@ -14,7 +14,7 @@ unfoldable pub driven_of : ℕ → ℕ → ℕ
 driven_of l d = lane_value (bit d) l
 
 unfoldable pub if_enabled : ℕ → ℕ → ℕ
-if_enabled on mask = if on is 1 then mask else 0
+if_enabled on mask = when on is 1 then mask else 0
 
 unfoldable pub lane_of : ℕ → ℕ → ℕ → ℕ → ℕ
 lane_of on mask old w = blend_k 8 (if_enabled on mask) old w

@@ -1,5 +1,7 @@
 // The plain rule over 256 bytes that are lent: the lanes of a read, a store under four masks, a return to default under a table of masks.
 // The built-in function and a sheet's device both go through here, each with masks of its own.
+#![tactic(auto)]
+
 ghost use Rattle.std.specs.Prelude.{◌≡◌, ◌+◌, ◌<◌};
 ghost use Rattle.bits.specs.Places.{put4_of};
 ghost use Rattle.plain.specs.Bytes.{spread_of, driven_of, if_enabled, lane_of, stored_of, returned_of};

@@ -1,7 +1,7 @@
 -- A plain device's entries, by the plain rule ('How a bit behaves'; refusals 5, 6 and 7 as in 'Refusal numbers').
 -- m are the 256 bytes that it holds; the tables say, byte by byte, each bit's default and who may change it.
 use Rattle.std.specs.Prelude.{List, ℕ, get_or}
-use Rattle.bits.specs.Choice.{if◌then◌else◌, ◌<?◌}
+use Rattle.bits.specs.Choice.{when◌then◌else◌, ◌<?◌}
 use Rattle.answer.specs.Refusals.{Reply, fine, no, OFFSET, NOT_HOST}
 use Rattle.answer.specs.Said.{says}
 use Rattle.access.specs.Access.{bad_offset, admit}
@@ -22,8 +22,8 @@ write_of guests m o l v = admit (bad_offset o) OFFSET l (λ (n : ℕ). lent (no 
 
 unfoldable pub host_of : List ℕ → List ℕ → ℕ → ℕ → ℕ → Lent
 host_of hosts m o k v =
-    if 255 <? o then lent (no OFFSET) m
-    else if outside (under hosts) o k then lent (no NOT_HOST) m
+    when 255 <? o then lent (no OFFSET) m
+    else when outside (under hosts) o k then lent (no NOT_HOST) m
     else lent fine (made (updated_bit (held m) o k v))
 
 unfoldable pub function_reset_of : List ℕ → List ℕ → List ℕ → List ℕ

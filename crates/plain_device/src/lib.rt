@@ -1,4 +1,6 @@
 // A plain device: 256 bytes, and four tables that say what may change each bit. Its entries go by the plain rule and know nothing else.
+#![tactic(auto)]
+
 ghost use Rattle.std.specs.Prelude.{◌≡◌, ◌+◌, ◌<◌};
 ghost use Rattle.answer.specs.Said.{says};
 ghost use Rattle.plain_device.specs.Device.{read_of, write_of, host_of, function_reset_of, stepped};
@@ -8,13 +10,13 @@ use access::Admitted;
 use answer::Answer;
 
 // What the device holds. Every pattern of bytes is a state.
-#[derive(Drop)]
+#[derive(Clone, Copy)]
 pub struct Registers {
     pub bytes: [u8; 256],
 }
 
 // What may change each bit, and what it starts from. Any tables make a device.
-#[derive(Drop)]
+#[derive(Clone, Copy)]
 pub struct Tables {
     pub defaults: [u8; 256],
     pub guests: [u8; 256],
@@ -23,14 +25,14 @@ pub struct Tables {
 }
 
 // What is answered, and what the device then holds.
-#[derive(Drop)]
+#[derive(Clone, Copy)]
 pub struct Stepped {
     pub answer: Answer,
     pub state: Registers,
 }
 
 // What can happen to the device: a guest's read (offset, lanes) and write (offset, lanes, value), the host's update (offset, mask, value) and function reset, and a platform reset.
-#[derive(Drop)]
+#[derive(Clone, Copy)]
 pub enum Event {
     Read(u32, u32),
     Write(u32, u32, u32),

@@ -1,5 +1,7 @@
 // The session player, from the fresh state.
-fn main() {
+#![tactic(auto)]
+
+fn main(rt: HostRuntime) {
     let defaults = map::all_defaults();
     let guests = map::all_guests();
     let hosts = map::all_hosts();
@@ -9,6 +11,6 @@ fn main() {
     let mut out = player_session::out_buffer();
     let c = function_reset::fresh_flags();
     player_session::session(
-        false, &defaults, &guests, &hosts, &resets, &mut m, c, &mut buf, &mut out,
+        &rt, false, &defaults, &guests, &hosts, &resets, &mut m, c, &mut buf, &mut out,
     );
 }

@@ -1,6 +1,6 @@
 -- A machine over lent bytes that answers lines: the session player, or a sheet's. proofs/Player.antt and proofs/Sheet.antt show that each comes to its rules.
 use Rattle.std.specs.Prelude.{List, Bool, ℕ}
-use Rattle.bits.specs.Choice.{if◌then◌else◌}
+use Rattle.bits.specs.Choice.{when◌then◌else◌}
 use Rattle.rules.specs.declared.Flags.{Flags}
 use Rattle.guest_write.specs.Bytes.{Lent, lent}
 use Rattle.host_updates.specs.Update as U
@@ -32,7 +32,7 @@ beside c r = lent r.reply r.bytes c
 
 abbrev pub answer_in : Box → List ℕ → Lent
 answer_in b l =
-    if b.sheet then beside b.flags (meant_of b.defaults b.guests b.hosts b.resets b.bytes (means l))
+    when b.sheet then beside b.flags (meant_of b.defaults b.guests b.hosts b.resets b.bytes (means l))
     else asked_of b.guests b.hosts b.bytes b.flags (asks l)
 
 abbrev pub line_box : Box → List ℕ → Box

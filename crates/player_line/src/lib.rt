@@ -1,4 +1,6 @@
 // A line answered over 256 bytes that are lent: of the session player, or of a sheet's, by the rows that each takes.
+#![tactic(auto)]
+
 ghost use Rattle.std.specs.Prelude.{◌≡◌, ◌++◌, ◌+◌, ◌≤◌, length, take};
 ghost use Rattle.guest_write.specs.Bytes.{wrote};
 ghost use Rattle.player_line.specs.Box.{box, answer_in, line_box, line_text};
@@ -30,7 +32,7 @@ fn answer(
     player_step::ask(guests, hosts, m, c, q)
 }
 
-#[derive(Drop)]
+#[derive(Clone, Copy)]
 pub struct Lined {
     pub filled: usize,
     pub flags: Flags,

@@ -1,11 +1,13 @@
 // The lines of a text, one after another, over 256 bytes that are lent.
+#![tactic(auto)]
+
 ghost use Rattle.std.specs.Prelude.{◌≡◌, [], min, ◌-◌, ◌*◌, ◌≤◌, length, take, drop};
 ghost use Rattle.session.specs.Session.{played, play_text};
 ghost use Rattle.player_line.specs.Box.{box, line_box, line_text};
 
 use rules::Flags;
 
-#[derive(Drop)]
+#[derive(Clone, Copy)]
 pub struct Rest {
     pub at: usize,
     pub filled: usize,

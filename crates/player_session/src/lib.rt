@@ -1,9 +1,12 @@
 // A session over 256 bytes that are lent: standard input in blocks, the answers of each block in one write.
+#![tactic(auto)]
+
 ghost use Rattle.std.specs.Prelude.{◌≡◌, length};
 ghost use Rattle.player_line.specs.Box.{box};
 ghost use Rattle.player_session.specs.Turns.{Led};
 
 use rules::Flags;
+use std::io::Input;
 
 // What is kept of a line, and a block.
 pub fn in_buffer() -> [u8; 8208]
@@ -20,14 +23,15 @@ pub fn out_buffer() -> [u8; 98496]
 }
 
 // The flags, and whether the input has ended.
-#[derive(Drop)]
+#[derive(Clone, Copy)]
 pub struct Played {
     pub flags: Flags,
     pub over: bool,
 }
 
 // The session, from bytes and flags on, until the input ends or something fails.
-pub fn session(
+pub fn session<R: Input + Print + Eprint + AllocGlobal>(
+    rt: &R,
     sheet: bool,
     defaults: &[u8; 256],
     guests: &[u8; 256],
@@ -46,11 +50,11 @@ pub fn session(
     let mut turns = streams::endless();
     while turns > 0 {
         let h = player_turns::turn(
-            sheet, defaults, guests, hosts, resets, m, flags, buf, k, out,
+            rt, sheet, defaults, guests, hosts, resets, m, flags, buf, k, out,
         );
         flags = h.flags;
         let n = h.filled;
-        let is_taken = streams::put(&out[..n]);
+        let is_taken = streams::put(rt, &out[..n]);
         if !h.on {
             return Played {
                 flags,

@@ -1,4 +1,6 @@
 // What is asked of the session player, over 256 bytes that are lent, with the flags by value.
+#![tactic(auto)]
+
 ghost use Rattle.std.specs.Prelude.{◌≡◌};
 ghost use Rattle.guest_write.specs.Bytes.{wrote};
 ghost use Rattle.player_step.specs.Ask.{happens_in, asked_of};

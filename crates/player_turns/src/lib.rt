@@ -1,12 +1,15 @@
 // A turn of a session over 256 bytes that are lent: a block of standard input, and its answers.
+#![tactic(auto)]
+
 ghost use Rattle.std.specs.Prelude.{◌≡◌, ◌≤◌, length, take};
 ghost use Rattle.player_line.specs.Box.{box};
 ghost use Rattle.player_turns.specs.Turn.{Turned};
 
 use rules::Flags;
+use std::io::Input;
 
 // The answers are the first `filled` bytes of the buffer for them; `on` says that more may come, `over` that the input has ended; neither, that the read failed.
-#[derive(Drop)]
+#[derive(Clone, Copy)]
 pub struct Heard {
     pub filled: usize,
     pub kept: usize,
@@ -65,7 +68,8 @@ fn last(
 }
 
 // Reads once, answers each line that is complete, and keeps the unfinished one. Where the read fails nothing is carried out.
-pub fn turn(
+pub fn turn<R: Input + Eprint + AllocGlobal>(
+    rt: &R,
     sheet: bool,
     defaults: &[u8; 256],
     guests: &[u8; 256],
@@ -81,7 +85,7 @@ pub fn turn(
     ensures kept_bound { (result.kept ≤ 16) × (result.filled ≤ 98496) × (length buf.new ≡ 8208) × (length out.new ≡ 98496) }
     ensures turned { Turned result.on result.over (box sheet defaults.now guests.now hosts.now resets.now m.old c) (take k buf.old) (box sheet defaults.now guests.now hosts.now resets.now m.new result.flags) (take result.filled out.new) (take result.kept buf.new) }
 {
-    let got = streams::fill(buf, k);
+    let got = streams::fill(rt, buf, k);
     if got.failed {
         return Heard {
             filled: 0,

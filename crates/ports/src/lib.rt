@@ -1,4 +1,6 @@
 // The port pair CF8h and CFCh, over a state by value.
+#![tactic(auto)]
+
 ghost use Rattle.std.specs.Prelude.{◌≡◌, ◌+◌, ◌%◌, ◌^◌, ◌<◌, ◌≤◌};
 ghost use Rattle.rules.specs.Ports.{bad_width, at_latch, at_data, not_ours, other_function, here, latch_of, port_lanes, placed, port_read_of, port_write_of};
 ghost use Rattle.answer.specs.Said.{says};

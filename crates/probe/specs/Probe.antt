@@ -2,7 +2,7 @@
 use Rattle.std.specs.Prelude.{ℕ, ◌+◌, ◌*◌, ◌/◌, ◌^◌}
 use Rattle.std.specs.Int.Count.{count_trailing_zeros}
 use Rattle.bits.specs.Bits.{bit, field}
-use Rattle.bits.specs.Choice.{if◌then◌else◌, ◌is◌}
+use Rattle.bits.specs.Choice.{when◌then◌else◌, ◌is◌}
 use Rattle.answer.specs.Refusals.{NO_RANGE}
 use Rattle.probe.specs.declared.Probed.{Probed}
 use Rattle.probe.specs.declared.Probed.TheVariants.{Io, Memory32, Memory64, NoRange}
@@ -38,11 +38,11 @@ counted_from b x = x / 2 ^ b * 2 ^ b
 
 -- the size is 2 to the number of zero bits below the lowest one that counts; refusal 8 where no counted bit is 1
 abbrev pub ranged : Kind → ℕ → ℕ → Reply
-ranged k width m = if m is 0 then refused else range k (count_trailing_zeros width m)
+ranged k width m = when m is 0 then refused else range k (count_trailing_zeros width m)
 
 unfoldable pub probe_of : ℕ → ℕ → Reply
 probe_of low high =
-    if bit low 0 is 1 then ranged io 32 (counted_from 2 low)
-    else if field low 2 0 is 0 then ranged memory32 32 (counted_from 4 low)
-    else if field low 2 0 is 4 then ranged memory64 64 (counted_from 4 (high * 2 ^ 32 + low))
+    when bit low 0 is 1 then ranged io 32 (counted_from 2 low)
+    else when field low 2 0 is 0 then ranged memory32 32 (counted_from 4 low)
+    else when field low 2 0 is 4 then ranged memory64 64 (counted_from 4 (high * 2 ^ 32 + low))
     else refused

@@ -1,9 +1,11 @@
 // The size probe: what a base register's readback says of its range.
+#![tactic(auto)]
+
 ghost use Rattle.std.specs.Prelude.{◌≡◌};
 ghost use Rattle.probe.specs.Probe.{probe_of, probe_says};
 
 // A range of its kind, with the exponent of its size; or none.
-#[derive(Drop)]
+#[derive(Clone, Copy)]
 pub enum Probed {
     Io(u32),
     Memory32(u32),

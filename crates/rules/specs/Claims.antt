@@ -1,7 +1,7 @@
 -- Address claims ('Claims, probe, walk').
 use Rattle.std.specs.Prelude.{Bool, ℕ, ◌+◌, ◌/◌, ◌%◌, ◌^◌}
 use Rattle.bits.specs.Bits.{bit, field, number_of}
-use Rattle.bits.specs.Choice.{if◌then◌else◌, ◌or◌, ◌is◌, ◌<?◌}
+use Rattle.bits.specs.Choice.{when◌then◌else◌, ◌or◌, ◌is◌, ◌<?◌}
 use Rattle.map.specs.Registers.{PCICMD2, GTTMMADR, GMADR, IOBAR, MSAC, PMCS}
 use Rattle.rules.specs.declared.State.{State}
 use Rattle.rules.specs.Access.{byte, busy}
@@ -21,7 +21,7 @@ pub data Claimed : Type 0 where
 
 -- a base is its register of so many bits with the bits below `low` taken as 0
 abbrev pub base_bit : State → ℕ → ℕ → ℕ → ℕ
-base_bit s at low b = if b <? low then 0 else bit (byte s (at + b / 8)) (b % 8)
+base_bit s at low b = when b <? low then 0 else bit (byte s (at + b / 8)) (b % 8)
 
 unfoldable pub base : State → ℕ → ℕ → ℕ → ℕ
 base s at width low = number_of width (base_bit s at low)
@@ -62,22 +62,22 @@ off s = busy s or field (byte s PMCS) 1 0 is 3
 -- size code 10 claims no aperture
 unfoldable pub aperture_claim : State → ℕ → ℕ → Claimed
 aperture_claim s code a =
-    if code is 2 then unclaimed
-    else if holds (aperture_base s) (exponent_of code) a then at aperture (exponent_of code) a
+    when code is 2 then unclaimed
+    else when holds (aperture_base s) (exponent_of code) a then at aperture (exponent_of code) a
     else unclaimed
 
 -- memory needs PCICMD2 bit 1; if both windows hold the address, GTTMMADR answers
 unfoldable pub memory_claim_of : State → ℕ → Claimed
 memory_claim_of s a =
-    if bit (byte s PCICMD2) 1 is 0 then unclaimed
-    else if off s then unclaimed
-    else if holds (translation_base s) translation_exponent a then at translation translation_exponent a
+    when bit (byte s PCICMD2) 1 is 0 then unclaimed
+    else when off s then unclaimed
+    else when holds (translation_base s) translation_exponent a then at translation translation_exponent a
     else aperture_claim s (size_of (byte s MSAC)) a
 
 -- I/O needs PCICMD2 bit 0
 unfoldable pub io_claim_of : State → ℕ → Claimed
 io_claim_of s p =
-    if bit (byte s PCICMD2) 0 is 0 then unclaimed
-    else if off s then unclaimed
-    else if holds (io_base s) io_exponent p then at io io_exponent p
+    when bit (byte s PCICMD2) 0 is 0 then unclaimed
+    else when off s then unclaimed
+    else when holds (io_base s) io_exponent p then at io io_exponent p
     else unclaimed

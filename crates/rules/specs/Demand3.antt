@@ -2,7 +2,7 @@
 -- The clauses speak of held bits; what a guest reads while a function reset is under way is said in clause 6.
 use Rattle.std.specs.Prelude.{◌≡◌, List, true, false, ℕ, ◌+◌, ◌*◌, ◌/◌, ◌%◌, ◌^◌, ◌<◌}
 use Rattle.bits.specs.Bits.{bit, number_of, byte_of}
-use Rattle.bits.specs.Choice.{if◌then◌else◌, ◌is◌}
+use Rattle.bits.specs.Choice.{when◌then◌else◌, ◌is◌}
 use Rattle.answer.specs.Refusals.{number, value, ok}
 use Rattle.map.specs.Registers.{SVID2, SID2, CAPPOINT, CAPL, MSAC, AFCTL, SWSCI}
 use Rattle.any_device.specs.Class.{stores, has_f}
@@ -36,7 +36,7 @@ ReadOnly = (es : List Event) (i j : ℕ) → i < 256 → j < 8 → stores (class
 
 -- 3. The computed list pointer follows its own rule: it is 90 or D0 by CAPL's bit.
 abbrev pub Computed : Type 0
-Computed = (es : List Event) → byte_of (shown_bit (run es) CAPPOINT) ≡ (if bit (byte (run es) CAPL) 0 is 1 then 0xD0 else 0x90)
+Computed = (es : List Event) → byte_of (shown_bit (run es) CAPPOINT) ≡ (when bit (byte (run es) CAPL) 0 is 1 then 0xD0 else 0x90)
 
 -- 4. The aperture's size code is never 10b, and its base is always a multiple of the size that the code names.
 abbrev pub code_of : List Event → ℕ
@@ -44,7 +44,7 @@ code_of es = size_of (byte (run es) MSAC)
 
 -- 00 names 128 MB, 01 names 256 MB, 11 names 512 MB
 abbrev pub size_named : ℕ → ℕ
-size_named code = if code is 0 then 128 * 2 ^ 20 else if code is 1 then 256 * 2 ^ 20 else 512 * 2 ^ 20
+size_named code = when code is 0 then 128 * 2 ^ 20 else when code is 1 then 256 * 2 ^ 20 else 512 * 2 ^ 20
 
 abbrev pub Aperture : Type 0
 Aperture = (es : List Event) → (code_of es ≡ 2 → ⊥) × ((q : ℕ) × (aperture_base (run es) ≡ q * size_named (code_of es)))
@@ -78,7 +78,7 @@ Started = (s : State) (o l v i j : ℕ) → bad_offset o ≡ false → starts o 
 
 -- At the end signal F bits hold their defaults, and so does the bit that starts a reset, every other bit stays, the latch too, and the state is not busy.
 abbrev pub Ended : Type 0
-Ended = (s : State) (i j : ℕ) → busy s ≡ true → i < 256 → j < 8 → (busy (end_of s) ≡ false) × ((end_of s).latch ≡ s.latch) × (bit (byte (end_of s) i) j ≡ (if has_f (class_of i j) then bit (default_at i) j else bit (byte s i) j))
+Ended = (s : State) (i j : ℕ) → busy s ≡ true → i < 256 → j < 8 → (busy (end_of s) ≡ false) × ((end_of s).latch ≡ s.latch) × (bit (byte (end_of s) i) j ≡ (when has_f (class_of i j) then bit (default_at i) j else bit (byte s i) j))
 
 -- When not busy it changes nothing.
 abbrev pub Unended : Type 0
@@ -115,4 +115,4 @@ ReadBackE8 = (es : List Event) → (seen es).busy ≡ false → (v : ℕ) × ((r
 
 -- what a driver polls for: AFCTL, in lane 0, reads FF while busy, and 0 otherwise
 abbrev pub Poll : Type 0
-Poll = (es : List Event) → read_of (run es) AFCTL 1 ≡ ok (if (seen es).busy then 0xFFFFFFFF else 0xFFFFFF00)
+Poll = (es : List Event) → read_of (run es) AFCTL 1 ≡ ok (when (seen es).busy then 0xFFFFFFFF else 0xFFFFFF00)

@@ -1,7 +1,7 @@
 -- The built-in function as a device: its map, its write-once fields, and its special rules, of the size code, the aperture and the power state ('How a bit behaves').
 use Rattle.std.specs.Prelude.{List, [], ◌∷◌, Bool, false, not, ℕ, ◌+◌, get_or}
 use Rattle.bits.specs.Bits.{bit, field}
-use Rattle.bits.specs.Choice.{if◌then◌else◌, ◌and◌, ◌or◌, ◌is◌, ◌≤?◌, ◌<?◌}
+use Rattle.bits.specs.Choice.{when◌then◌else◌, ◌and◌, ◌or◌, ◌is◌, ◌≤?◌, ◌<?◌}
 use Rattle.access.specs.Access.{enabled}
 use Rattle.any_map.specs.Map.{class_at, defaults}
 use Rattle.any_device.specs.Class.{Stored, never, always, once, until, special}
@@ -24,7 +24,7 @@ least_exponent = 27
 
 -- how many bits of GMADR, from bit 27 up, the code makes read-only: 01 bit 27, 11 bits 28:27, 00 neither; 10 (foreign states only) neither
 unfoldable pub bits_taken : ℕ → ℕ
-bits_taken code = if code is 3 then 2 else if code is 1 then 1 else 0
+bits_taken code = when code is 3 then 2 else when code is 1 then 1 else 0
 
 -- 01 names 256 MB, 11 names 512 MB: each bit taken doubles the size
 abbrev pub exponent_of : ℕ → ℕ
@@ -66,7 +66,7 @@ is_taken code (special power) = false
 
 -- CAPPOINT reads 90 when CAPL bit 0 is 0, D0 when it is 1
 unfoldable pub pointer : List ℕ → ℕ
-pointer m = if bit (get_or m CAPL 0) 0 is 1 then 0xD0 else 0x90
+pointer m = when bit (get_or m CAPL 0) 0 is 1 then 0xD0 else 0x90
 
 -- ---- the device
 

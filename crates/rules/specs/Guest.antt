@@ -1,7 +1,7 @@
 -- A guest write ('How a bit behaves').
 use Rattle.std.specs.Prelude.{Bool, ℕ}
 use Rattle.bits.specs.Bits.{bit}
-use Rattle.bits.specs.Choice.{if◌then◌else◌, ◌and◌, ◌is◌}
+use Rattle.bits.specs.Choice.{when◌then◌else◌, ◌and◌, ◌is◌}
 use Rattle.answer.specs.Refusals.{OFFSET}
 use Rattle.access.specs.Access.{enabled, byte_for, bad_offset}
 use Rattle.plain.specs.Plain.{Bits, made}
@@ -46,7 +46,7 @@ written_of s o l v = holding s (made (bit_after s o l v)) (flags_after o l v s.f
 
 -- while busy, guest writes are dropped
 unfoldable pub step_of : State → ℕ → ℕ → ℕ → State
-step_of s o l v = if busy s then s else written_of s o l v
+step_of s o l v = when busy s then s else written_of s o l v
 
 -- dropped writes answer as accepted ones; refusals come first
 unfoldable pub write_of : State → ℕ → ℕ → ℕ → Outcome

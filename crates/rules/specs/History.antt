@@ -1,7 +1,7 @@
 -- What each event comes to, from the list of events alone: no state is asked. What a guest write must be to count is said in the paper's numbers and not by the machine's tests.
 use Rattle.std.specs.Prelude.{List, Bool, true, false, ℕ, ◌+◌, ◌-◌, ◌*◌, ◌%◌}
 use Rattle.bits.specs.Bits.{bit, field}
-use Rattle.bits.specs.Choice.{if◌then◌else◌, ◌and◌, ◌or◌, ◌is◌, ◌≤?◌, ◌<?◌}
+use Rattle.bits.specs.Choice.{when◌then◌else◌, ◌and◌, ◌or◌, ◌is◌, ◌≤?◌, ◌<?◌}
 use Rattle.access.specs.Access.{enabled, byte_for}
 use Rattle.past.specs.Past.{Given, or_held, ran, retold}
 use Rattle.any_device.specs.Class.{device}
@@ -32,7 +32,7 @@ abbrev pub latch_after : ℕ → Event → ℕ
 latch_after x (Read o l) = x
 latch_after x (Write o l v) = x
 latch_after x (PortRead p w) = x
-latch_after x (PortWrite p w v) = if p is 0xCF8 and w is 4 then latch_of v else x
+latch_after x (PortWrite p w v) = when p is 0xCF8 and w is 4 then latch_of v else x
 latch_after x (HostUpdate o m v) = x
 latch_after x EndSignal = x
 latch_after x PlatformReset = 0
@@ -56,10 +56,10 @@ data_access x p w = (w is 1 or w is 2 or w is 4) and 0xCFC ≤? p and p + w ≤?
 -- the guest write that an event comes to, where the latch holds x
 unfoldable pub accepted_write : ℕ → Event → GuestWrite
 accepted_write x (Read o l) = none
-accepted_write x (Write o l v) = if direct o l then at o l v else none
+accepted_write x (Write o l v) = when direct o l then at o l v else none
 accepted_write x (PortRead p w) = none
 accepted_write x (PortWrite p w v) =
-    if data_access x p w then at (field x 7 2 * 4) (port_lanes (p - 0xCFC) w) (placed v (p - 0xCFC) w)
+    when data_access x p w then at (field x 7 2 * 4) (port_lanes (p - 0xCFC) w) (placed v (p - 0xCFC) w)
     else none
 accepted_write x (HostUpdate o m v) = none
 accepted_write x EndSignal = none
@@ -78,7 +78,7 @@ at_start = record { latch = 0; busy = false }
 -- while busy a write is dropped, and counts as none
 abbrev pub unless_busy : Bool → GuestWrite → GuestWrite
 unless_busy b none = none
-unless_busy b (at o l v) = if b then none else at o l v
+unless_busy b (at o l v) = when b then none else at o l v
 
 abbrev pub guest_write : Seen → Event → GuestWrite
 guest_write x e = unless_busy x.busy (accepted_write x.latch e)
@@ -117,8 +117,8 @@ deed_of x (Read o l) = idle
 deed_of x (Write o l v) = as_deed (guest_write x (Write o l v))
 deed_of x (PortRead p w) = idle
 deed_of x (PortWrite p w v) = as_deed (guest_write x (PortWrite p w v))
-deed_of x (HostUpdate o m v) = if o <? 256 then host device o m v else idle
-deed_of x EndSignal = if x.busy then return else idle
+deed_of x (HostUpdate o m v) = when o <? 256 then host device o m v else idle
+deed_of x EndSignal = when x.busy then return else idle
 deed_of x PlatformReset = anew ivy_bridge
 deed_of x (InWindow e) = idle
 

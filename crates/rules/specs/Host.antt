@@ -1,6 +1,6 @@
 -- A host update of the byte at offset o, with a mask byte and a value byte ('How a bit behaves').
 use Rattle.std.specs.Prelude.{Bool, ℕ}
-use Rattle.bits.specs.Choice.{if◌then◌else◌, ◌<?◌}
+use Rattle.bits.specs.Choice.{when◌then◌else◌, ◌<?◌}
 use Rattle.answer.specs.Refusals.{OFFSET, NOT_HOST}
 use Rattle.plain.specs.Plain.{Bits, made}
 use Rattle.any_device.specs.Class.{device}
@@ -23,6 +23,6 @@ host_step_of s o m v = holding s (made (host_bit s o m v)) s.flags
 
 unfoldable pub host_of : State → ℕ → ℕ → ℕ → Outcome
 host_of s o m v =
-    if 255 <? o then refused OFFSET s
-    else if not_host o m then refused NOT_HOST s
+    when 255 <? o then refused OFFSET s
+    else when not_host o m then refused NOT_HOST s
     else done (host_step_of s o m v)

@@ -2,7 +2,7 @@
 -- The first three are said of any bits, so of the built-in function and of a sheet's device.
 use Rattle.std.specs.Prelude.{◌≡◌, true, false, ℕ, ◌+◌, ◌-◌, ◌/◌, ◌%◌, ◌^◌, ◌<◌}
 use Rattle.bits.specs.Bits.{byte_of}
-use Rattle.bits.specs.Choice.{if◌then◌else◌}
+use Rattle.bits.specs.Choice.{when◌then◌else◌}
 use Rattle.answer.specs.Refusals.{number, value, ok}
 use Rattle.rules.specs.declared.State.{State}
 use Rattle.access.specs.Access.{enabled, byte_for}
@@ -12,7 +12,7 @@ use Rattle.rules.specs.Ports.{DATA, at_latch, dword_of, port_lanes, port_read_of
 
 -- 1. An accepted read gives each enabled byte in its place, and FF in the lanes that aren't enabled.
 abbrev pub InLanes : Type 0
-InLanes = (b : Bits) (o l k : ℕ) → ((i j : ℕ) → b i j < 2) → k < 4 → byte_for o (shown_value b o l) (o + k) ≡ (if enabled o l (o + k) then byte_of (b (o + k)) else 0xFF)
+InLanes = (b : Bits) (o l k : ℕ) → ((i j : ℕ) → b i j < 2) → k < 4 → byte_for o (shown_value b o l) (o + k) ≡ (when enabled o l (o + k) then byte_of (b (o + k)) else 0xFF)
 
 -- 2. Lanes 0 reads FFFFFFFF.
 abbrev pub NoLanes : Type 0

@@ -1,7 +1,7 @@
 -- The port pair CF8h and CFCh ('The port pair'): an access of w bytes at port p.
 use Rattle.std.specs.Prelude.{Bool, not, ℕ, ◌+◌, ◌-◌, ◌*◌, ◌/◌, ◌%◌, ◌^◌}
 use Rattle.bits.specs.Bits.{bit, field, number_of}
-use Rattle.bits.specs.Choice.{if◌then◌else◌, ◌and◌, ◌or◌, ◌is◌, ◌≤?◌, ◌<?◌, mark}
+use Rattle.bits.specs.Choice.{when◌then◌else◌, ◌and◌, ◌or◌, ◌is◌, ◌≤?◌, ◌<?◌, mark}
 use Rattle.answer.specs.Refusals.{Reply, ok, no, WIDTH, NOT_OURS, OTHER_FUNCTION}
 use Rattle.rules.specs.declared.State.{State}
 use Rattle.rules.specs.Access.{Outcome, done, refused}
@@ -40,10 +40,10 @@ other_function there latch = not (there (field latch 23 16) (field latch 15 11) 
 -- where an access goes, over which functions are there: refused, to the latch, or to the data of that device
 abbrev pub route : {A : Type 0} → (ℕ → ℕ → ℕ → Bool) → ℕ → ℕ → ℕ → (ℕ → A) → A → (ℕ → A) → A
 route there latch p w refuse to-latch to-data =
-    if bad_width w then refuse WIDTH
-    else if not_ours latch p w then refuse NOT_OURS
-    else if at_latch p w then to-latch
-    else if other_function there latch then refuse OTHER_FUNCTION
+    when bad_width w then refuse WIDTH
+    else when not_ours latch p w then refuse NOT_OURS
+    else when at_latch p w then to-latch
+    else when other_function there latch then refuse OTHER_FUNCTION
     else to-data (field latch 15 11)
 
 -- here bus 0, device 2, function 0 alone
@@ -54,7 +54,7 @@ here bus device function = bus is 0 and device is 2 and function is 0
 
 -- bits 30:24 and 1:0 are zero
 abbrev pub latch_bit : ℕ → ℕ → ℕ
-latch_bit v n = if 24 ≤? n and n ≤? 30 or n <? 2 then 0 else bit v n
+latch_bit v n = when 24 ≤? n and n ≤? 30 or n <? 2 then 0 else bit v n
 
 unfoldable pub latch_of : ℕ → ℕ
 latch_of v = number_of 32 (latch_bit v)

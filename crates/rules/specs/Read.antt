@@ -1,6 +1,6 @@
 -- A guest read, bit by bit ('How a bit behaves').
 use Rattle.std.specs.Prelude.{List, ℕ}
-use Rattle.bits.specs.Choice.{if◌then◌else◌}
+use Rattle.bits.specs.Choice.{when◌then◌else◌}
 use Rattle.answer.specs.Refusals.{Reply}
 use Rattle.plain.specs.Plain.{Bits, made, shown_value, read_reply}
 use Rattle.any_device.specs.Device as D
@@ -14,7 +14,7 @@ shown_bit s = D.shown_bit built_in (core s)
 
 -- as a guest reads it: a one while busy
 unfoldable pub read_bit : State → Bits
-read_bit s i j = if busy s then 1 else shown_bit s i j
+read_bit s i j = when busy s then 1 else shown_bit s i j
 
 -- each enabled byte in its place
 unfoldable pub read_value : State → ℕ → ℕ → ℕ

@@ -1,5 +1,5 @@
 -- The end of a function reset ('How a bit behaves'), which the host signals.
-use Rattle.bits.specs.Choice.{if◌then◌else◌}
+use Rattle.bits.specs.Choice.{when◌then◌else◌}
 use Rattle.plain.specs.Plain.{Bits, made}
 use Rattle.any_device.specs.Device as D
 use Rattle.rules.specs.declared.State.{State}
@@ -20,4 +20,4 @@ ended_of s = holding s (made (ended_bit s)) (idle s.flags)
 
 -- the end signal; when not busy it changes nothing
 unfoldable pub end_of : State → State
-end_of s = if busy s then ended_of s else s
+end_of s = when busy s then ended_of s else s

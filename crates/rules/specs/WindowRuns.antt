@@ -1,7 +1,7 @@
 -- What holds of the window (W-207), clause by clause: after every run, or of every event in every state.
 use Rattle.std.specs.Prelude.{◌≡◌, List, Bool, true, false, not, ℕ, ◌+◌, ◌*◌, ◌%◌, ◌^◌, ◌≤◌, ◌<◌}
 use Rattle.bits.specs.Bits.{bit, number_of, byte_of}
-use Rattle.bits.specs.Choice.{if◌then◌else◌, ◌and◌, ◌or◌, ◌is◌}
+use Rattle.bits.specs.Choice.{when◌then◌else◌, ◌and◌, ◌or◌, ◌is◌}
 use Rattle.answer.specs.Refusals.{ok, WINDOW_OFFSET}
 use Rattle.rules.specs.declared.State.{State}
 use Rattle.rules.specs.Access.{busy}
@@ -40,11 +40,11 @@ mirror_gives o n (WindowWrite p l v) = nothing
 mirror_gives o n (Complete m) = nothing
 mirror_gives o n (Fault v) = nothing
 mirror_gives o n (AddCycles c) = nothing
-mirror_gives o n (MirrorUpdate p m v) = if not (bad_window p or beyond (mirror_mask p) m) and p is o and bit m n is 1 then given (bit v n) else nothing
+mirror_gives o n (MirrorUpdate p m v) = when not (bad_window p or beyond (mirror_mask p) m) and p is o and bit m n is 1 then given (bit v n) else nothing
 
 -- a platform reset gives it 0
 abbrev pub gives : ℕ → ℕ → Event → Given
-gives o n e = if is_reset e then given 0 else of_window nothing (mirror_gives o n) e
+gives o n e = when is_reset e then given 0 else of_window nothing (mirror_gives o n) e
 
 -- the last that was given; 0 where nothing was
 abbrev pub mirror_bit : ℕ → ℕ → List Event → ℕ
@@ -68,7 +68,7 @@ counted (AddCycles n) = n
 counted (MirrorUpdate o m v) = 0
 
 abbrev pub count_next : Event → ℕ → ℕ
-count_next e n = if is_reset e then 0 else n + of_window 0 counted e
+count_next e n = when is_reset e then 0 else n + of_window 0 counted e
 
 abbrev pub Sum : Type 0
 Sum = (es : List Event) → (run es).window.cycles ≡ ran count_next 0 es % 2 ^ 32
@@ -108,7 +108,7 @@ WindowBusy = (s : State) → busy s ≡ true → ((o l : ℕ) → window_read_of
 -- ---- 7. an accepted read gives each enabled byte of the dword in its place, and FF in the lanes that aren't enabled; lanes 0 reads FFFFFFFF
 
 abbrev pub WindowLanes : Type 0
-WindowLanes = (s : State) (o l k : ℕ) → k < 4 → byte_for o (lane_value (window_read_bit s o) l) (o + k) ≡ (if enabled o l (o + k) then byte_of (λ (j : ℕ). window_read_bit s o (8 * k + j)) else 0xFF)
+WindowLanes = (s : State) (o l k : ℕ) → k < 4 → byte_for o (lane_value (window_read_bit s o) l) (o + k) ≡ (when enabled o l (o + k) then byte_of (λ (j : ℕ). window_read_bit s o (8 * k + j)) else 0xFF)
 
 abbrev pub WindowNoLanes : Type 0
 WindowNoLanes = (s : State) (o : ℕ) → lane_value (window_read_bit s o) 0 ≡ 0xFFFFFFFF

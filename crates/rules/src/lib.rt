@@ -1,9 +1,11 @@
 // The twin's state, what can happen to it, and what an entry gives. What each event does is in specs/; this crate has no code.
+#![tactic(auto)]
+
 use answer::Answer;
 
 // The write-once fields: 0 open, any other number closed. Busy: 0 where no function reset is under way, any other number where one is.
 #[repr(C)]
-#[derive(Drop)]
+#[derive(Clone, Copy)]
 pub struct Flags {
     pub svid2: u8,
     pub sid2: u8,
@@ -13,7 +15,7 @@ pub struct Flags {
 
 // The registers of the window inside GTTMMADR, in the order of their offsets; MTOUUD has two dwords.
 #[repr(C)]
-#[derive(Drop)]
+#[derive(Clone, Copy)]
 pub struct Mapped {
     pub fault: u32,
     pub assrreq: u32,
@@ -25,7 +27,7 @@ pub struct Mapped {
 
 // The 256 configuration bytes, the port latch, the flags, and the window's registers. Every pattern of 288 bytes is a state.
 #[repr(C)]
-#[derive(Drop)]
+#[derive(Clone, Copy)]
 pub struct State {
     pub bytes: [u8; 256],
     pub latch: u32,
@@ -34,14 +36,14 @@ pub struct State {
 }
 
 // What is answered, and the state afterwards.
-#[derive(Drop)]
+#[derive(Clone, Copy)]
 pub struct Stepped {
     pub answer: Answer,
     pub state: State,
 }
 
 // The window that claims an address, with the offset inside, or none.
-#[derive(Drop)]
+#[derive(Clone, Copy)]
 pub enum Claim {
     Translation(u32),
     Aperture(u32),
@@ -50,7 +52,7 @@ pub enum Claim {
 }
 
 // What can happen in the window: a guest's read (offset, lanes) and write (offset, lanes, value); the host completes requests (mask), gives a fault word, adds a count to the cycles, and updates a mirror (offset, mask, value).
-#[derive(Drop)]
+#[derive(Clone, Copy)]
 pub enum WindowEvent {
     WindowRead(u32, u32),
     WindowWrite(u32, u32, u32),
@@ -61,7 +63,7 @@ pub enum WindowEvent {
 }
 
 // What can happen: a guest's read (offset, lanes) and write (offset, lanes, value), through the ports too (port, width, value); the host's update (offset, mask, value) and end signal; a platform reset; and what happens in the window.
-#[derive(Drop)]
+#[derive(Clone, Copy)]
 pub enum Event {
     Read(u32, u32),
     Write(u32, u32, u32),

@@ -1,6 +1,6 @@
 -- A session, for any machine that answers lines: `next` is its state after a line, `say` its answer. The input is split at LF, and each line is played in turn.
 use Rattle.std.specs.Prelude.{List, [], ◌∷◌, ◌++◌, ℕ, suc, take}
-use Rattle.bits.specs.Choice.{if◌then◌else◌, ◌is◌}
+use Rattle.bits.specs.Choice.{when◌then◌else◌, ◌is◌}
 
 abbrev pub LF : ℕ
 LF = 10
@@ -10,12 +10,12 @@ LF = 10
 -- the lines that a text completes, when l stands before it
 unfoldable pub lines_of : List ℕ → List ℕ → List (List ℕ)
 lines_of l [] = []
-lines_of l (x ∷ xs) = if x is LF then l ∷ lines_of [] xs else lines_of (l ++ (x ∷ [])) xs
+lines_of l (x ∷ xs) = when x is LF then l ∷ lines_of [] xs else lines_of (l ++ (x ∷ [])) xs
 
 -- what stands behind the last LF
 unfoldable pub rest_of : List ℕ → List ℕ → List ℕ
 rest_of l [] = l
-rest_of l (x ∷ xs) = if x is LF then rest_of [] xs else rest_of (l ++ (x ∷ [])) xs
+rest_of l (x ∷ xs) = when x is LF then rest_of [] xs else rest_of (l ++ (x ∷ [])) xs
 
 -- a last line may lack its LF; where nothing stands behind the last LF there is no further line
 abbrev pub last_of : List ℕ → List (List ℕ)
@@ -29,7 +29,7 @@ all_lines xs = lines_of [] xs ++ last_of (rest_of [] xs)
 -- how many bytes stand before the first LF
 unfoldable pub run_of : List ℕ → ℕ
 run_of [] = 0
-run_of (x ∷ xs) = if x is LF then 0 else suc (run_of xs)
+run_of (x ∷ xs) = when x is LF then 0 else suc (run_of xs)
 
 -- the blocks that an input comes in, one behind the other
 abbrev pub joins : List (List ℕ) → List ℕ
@@ -57,7 +57,7 @@ module _ {S : Type 0} (next : S → List ℕ → S) (say : S → List ℕ → Li
 
   unfoldable pub play_text : S → List ℕ → List ℕ → Played S
   play_text s l [] = played s [] l
-  play_text s l (x ∷ xs) = if x is LF then follow (say s l) (play_text (next s l) [] xs) else play_text s (l ++ (x ∷ [])) xs
+  play_text s l (x ∷ xs) = when x is LF then follow (say s l) (play_text (next s l) [] xs) else play_text s (l ++ (x ∷ [])) xs
 
   -- the line that lacks its LF
   abbrev pub last_text : S → List ℕ → List ℕ

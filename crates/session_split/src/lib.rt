@@ -1,4 +1,6 @@
 // An input split at LF, for any machine that answers lines: where a line ends, and what is kept of an unfinished one.
+#![tactic(auto)]
+
 ghost use Rattle.std.specs.Prelude.{◌≡◌, min, ◌-◌, ◌+◌, ◌≤◌, length, take, drop};
 ghost use Rattle.session.specs.Session.{run_of};
 

@@ -1,17 +1,19 @@
 // A register sheet's entries and bodies, over a lent slice of any length and any bytes.
+#![tactic(auto)]
+
 ghost use Rattle.std.specs.Prelude.{◌≡◌, ◌+◌, ◌*◌, ◌<◌};
 ghost use Rattle.sheet.specs.Sheet.{at, entries};
 ghost use Rattle.sheet.specs.Reads.{entry_at, is_good, byte_is, body_is, body_in, body_at};
 
 // An entry of the contents: config offset, length and body start; or none of that number.
-#[derive(Drop)]
+#[derive(Clone, Copy)]
 pub enum Entry {
     Listed(u8, u8, u16),
     End,
 }
 
 // A body's masks: good, guest and host share a bit, the reset mask leaves the guest mask; or no body within the sheet.
-#[derive(Drop)]
+#[derive(Clone, Copy)]
 pub enum Body {
     Good,
     Shared,

@@ -1,4 +1,6 @@
 // A register sheet checked, by a reader that holds it.
+#![tactic(auto)]
+
 ghost use Rattle.std.specs.Prelude.{◌≡◌, Bool, ◌<◌, ◌≤◌, length};
 ghost use Rattle.sheet.specs.Sheet.{entries, contents, belongs};
 ghost use Rattle.sheet.specs.Reads.{body_at};
@@ -87,7 +89,7 @@ fn long_of(e: Entry) -> usize
     }
 }
 
-#[derive(Drop)]
+#[derive(Clone, Copy)]
 struct Walked {
     answer: SheetAnswer,
     place: usize,

@@ -1,4 +1,6 @@
 // A line of the sheet player as what it asks of a sheet's device.
+#![tactic(auto)]
+
 ghost use Rattle.std.specs.Prelude.{◌≡◌};
 ghost use Rattle.line_forms.specs.Table.{find};
 ghost use Rattle.line_forms.specs.Read.{columns_of, asks_of, Fits, read_by};
@@ -7,7 +9,7 @@ ghost use Rattle.sheet_lines.specs.Table.{sheet_rows};
 use line_forms::{Numbers, Row};
 use plain_device::Event;
 
-#[derive(Drop)]
+#[derive(Clone, Copy)]
 pub enum Meant {
     Event(Event),
     Nothing,

@@ -1,4 +1,6 @@
 // The tables of the device that a register sheet describes, by a reader that holds it.
+#![tactic(auto)]
+
 ghost use Rattle.std.specs.Prelude.{◌≡◌, ◌<◌, ◌≤◌, length};
 ghost use Rattle.bits.specs.Places.{bytes};
 ghost use Rattle.sheet.specs.Sheet.{entries, contents};
@@ -74,7 +76,7 @@ fn table(s: &[u8], p: usize) -> [u8; 256]
     t
 }
 
-#[derive(Drop)]
+#[derive(Clone, Copy)]
 pub struct Loaded {
     pub answer: SheetAnswer,
     pub tables: Tables,

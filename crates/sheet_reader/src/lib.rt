@@ -1,12 +1,14 @@
 // A reader of a register sheet: it keeps hold of the sheet's bytes while it goes through the contents, and hands each body on to the body checker.
 // Its functions are thin: each takes the reader apart and calls the covered function on the slice and the number. `entry_of` and `body_of` serve a caller that has a plain slice.
+#![tactic(auto)]
+
 ghost use Rattle.std.specs.Prelude.{◌≡◌};
 ghost use Rattle.sheet.specs.Reads.{entry_at, body_at};
 
 use sheet::{Body, Entry};
 
 // The lent sheet, and the number of the next entry.
-#[derive(Drop)]
+#[derive(Clone, Copy)]
 pub struct Reader<'a> {
     pub sheet: &'a [u8],
     pub next: usize,

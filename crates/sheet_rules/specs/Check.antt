@@ -1,6 +1,6 @@
 -- The check of a sheet, in the order in which it is refused: empty 12, n 13, contents cut short 12, entries in order 13, total length 12, masks 14.
 use Rattle.std.specs.Prelude.{List, Bool, not, ℕ, ◌+◌, length}
-use Rattle.bits.specs.Choice.{if◌then◌else◌, ◌is◌, ◌<?◌, first}
+use Rattle.bits.specs.Choice.{when◌then◌else◌, ◌is◌, ◌<?◌, first}
 use Rattle.answer.specs.Refusals.{SHEET_LENGTH, SHEET_CONTENTS, SHEET_BODY}
 use Rattle.sheet.specs.Sheet.{entries, contents, offset_of, length_of, start_of, end_before, belongs, body_of, good_count, good_length}
 use Rattle.sheet.specs.Reads.{body_is}
@@ -29,16 +29,16 @@ accepts a = sheet_no a is 0
 -- the next check, where this one accepts
 infixr 15 ◌and_then◌
 abbrev pub ◌and_then◌ : SheetAnswer → SheetAnswer → SheetAnswer
-a and_then b = if accepts a then b else a
+a and_then b = when accepts a then b else a
 
 -- ---- an entry: what stands before it ends at `end`, and its body belongs at `place`
 
 unfoldable pub placed : ℕ → ℕ → ℕ → ℕ → ℕ → ℕ → SheetAnswer
 placed k end place offset long start =
-    if not (good_length long) then Length k
-    else if offset <? end then Order k
-    else if 256 <? offset + long then Past k
-    else if not (start is place) then Start k
+    when not (good_length long) then Length k
+    else when offset <? end then Order k
+    else when 256 <? offset + long then Past k
+    else when not (start is place) then Start k
     else Good
 
 abbrev pub entry_of : List ℕ → ℕ → SheetAnswer
@@ -62,11 +62,11 @@ abbrev pub first_of : (ℕ → SheetAnswer) → ℕ → SheetAnswer
 first_of f n = first accepts Good f n 0
 
 unfoldable pub total_of : List ℕ → SheetAnswer
-total_of s = if length s is belongs s (entries s) then Good else Total
+total_of s = when length s is belongs s (entries s) then Good else Total
 
 unfoldable pub check_of : List ℕ → SheetAnswer
 check_of s =
-    if length s is 0 then Empty
-    else if not (good_count (entries s)) then Count
-    else if length s <? contents s then Cut
+    when length s is 0 then Empty
+    else when not (good_count (entries s)) then Count
+    else when length s <? contents s then Cut
     else first_of (entry_of s) (entries s) and_then total_of s and_then first_of (body_answer s) (entries s)

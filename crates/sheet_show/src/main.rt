@@ -1,4 +1,6 @@
 // A register sheet as a table: the sheet's file name is the argument.
+#![tactic(auto)]
+
 ghost use Rattle.std.specs.Prelude.{◌≡◌, length};
 
 // A line of 82 bytes for the heading and for as many entries as a byte can say.
@@ -8,8 +10,8 @@ fn out_buffer() -> [u8; 20992]
     [0; 20992]
 }
 
-fn main() {
-    let held = sheet_file::named();
+fn main(rt: HostRuntime) {
+    let held = sheet_file::named(&rt);
     if !held.on {
         return;
     }
@@ -17,5 +19,5 @@ fn main() {
     let bytes = held.bytes;
     let mut out = out_buffer();
     let filled = sheet_table::table(&bytes[..n], &mut out);
-    streams::put(&out[..filled]);
+    streams::put(&rt, &out[..filled]);
 }

@@ -1,4 +1,6 @@
 // What a line asks of a sheet's device, over 256 bytes that are lent.
+#![tactic(auto)]
+
 ghost use Rattle.std.specs.Prelude.{◌≡◌};
 ghost use Rattle.plain_device.specs.Bytes.{answered};
 ghost use Rattle.sheet_step.specs.Ask.{happens_in, meant_of};

@@ -1,6 +1,6 @@
 -- A sheet as a table that a person can read: a heading, and a line for each register with offset, length, default and masks.
 use Rattle.std.specs.Prelude.{List, [], ◌++◌, ℕ, zero, suc, ◌+◌, ◌-◌, ◌*◌, ◌/◌, ◌%◌}
-use Rattle.bits.specs.Choice.{if◌then◌else◌, ◌is◌, ◌<?◌}
+use Rattle.bits.specs.Choice.{when◌then◌else◌, ◌is◌, ◌<?◌}
 use Rattle.bits.specs.Places.{from}
 use Rattle.line_forms.specs.Ascii.{ascii, letter}
 use Rattle.line_forms.specs.Hex.{up_of}
@@ -15,22 +15,22 @@ heading = ascii "At  Bytes           Default             Guest              Host
 -- digit d of part p, from the right: two digits to a byte, and values are little-endian
 unfoldable pub digit_of : List ℕ → ℕ → ℕ → ℕ → ℕ
 digit_of s k p d =
-    if d <? 2 * length_of s k then up_of (if d % 2 is 0 then at s (start_of s k + p * length_of s k + d / 2) % 16 else at s (start_of s k + p * length_of s k + d / 2) / 16)
+    when d <? 2 * length_of s k then up_of (when d % 2 is 0 then at s (start_of s k + p * length_of s k + d / 2) % 16 else at s (start_of s k + p * length_of s k + d / 2) / 16)
     else letter " "
 
 -- column c of eighteen: two spaces, then the digits
 unfoldable pub column_of : List ℕ → ℕ → ℕ → ℕ → ℕ
-column_of s k p c = if c <? 2 then letter " " else digit_of s k p (17 - c)
+column_of s k p c = when c <? 2 then letter " " else digit_of s k p (17 - c)
 
 -- ---- a line
 
 -- column c of entry k
 unfoldable pub char_of : List ℕ → ℕ → ℕ → ℕ
 char_of s k c =
-    if c is 0 then up_of (offset_of s k / 16)
-    else if c is 1 then up_of (offset_of s k % 16)
-    else if c is 8 then up_of (length_of s k % 16)
-    else if c <? 9 then letter " "
+    when c is 0 then up_of (offset_of s k / 16)
+    else when c is 1 then up_of (offset_of s k % 16)
+    else when c is 8 then up_of (length_of s k % 16)
+    else when c <? 9 then letter " "
     else column_of s k ((c - 9) / 18) ((c - 9) % 18)
 
 -- entry k

@@ -1,10 +1,13 @@
 // A sheet's register as a line of a table: its offset, its length, its default and its masks.
+#![tactic(auto)]
+
 ghost use Rattle.std.specs.Prelude.{◌≡◌, ◌+◌, ◌*◌, ◌<◌, ◌≤◌, length, take};
 ghost use Rattle.line_forms.specs.Hex.{up_of};
 ghost use Rattle.sheet.specs.Sheet.{at, length_of, start_of};
 ghost use Rattle.sheet_table.specs.Row.{heading, digit_of, column_of, char_of, row_text, table_text};
 
 // The heading of the table.
+#[tactic(auto, unfolding(crate::specs::Row::heading))]
 pub fn head() -> [u8; 82]
     ensures { result ≡ heading }
 {

@@ -1,4 +1,6 @@
 // The 256 bytes as a guest reads them, in the form of `lspci -n -xxx`.
+#![tactic(auto)]
+
 ghost use Rattle.std.specs.Prelude.{◌≡◌, ◌≤◌, length, take};
 ghost use Rattle.rules.specs.Read.{image_of};
 ghost use Rattle.lspci_text.specs.Dump.{dump_text};

@@ -1,4 +1,6 @@
 // One step from a state: an event's answer and the state afterwards, what a look shows, and what is told to whatever is asked.
+#![tactic(auto)]
+
 ghost use Rattle.std.specs.Prelude.{◌≡◌};
 ghost use Rattle.rules.specs.Events.{window_happens, happens};
 ghost use Rattle.rules.specs.Answers.{stepped};

@@ -1,7 +1,10 @@
 // Bytes from standard input, a block at a time, and to standard output. A call that a signal interrupts is made again; what fails is told on standard error.
-ghost use Rattle.std.specs.Prelude.{◌≡◌, ◌+◌, ◌≤◌, length, take};
+#![tactic(auto)]
 
-use libc::{EINTR, STDIN_FILENO, STDOUT_FILENO};
+ghost use Rattle.std.specs.Prelude.{◌≡◌, ◌+◌, ◌≤◌, IfOk, length, take};
+
+use std::io;
+use std::io::{Error, ErrorKind, Input, Read};
 
 // How often a loop goes round at most: every loop ends, and none before any input that there is.
 pub fn endless() -> u64
@@ -11,98 +14,108 @@ pub fn endless() -> u64
 }
 
 // What a call moved: `n` bytes, or none where it failed.
-#[derive(Drop)]
+#[derive(Clone, Copy)]
 pub struct Moved {
     pub n: usize,
     pub failed: bool,
 }
 
+// ---- what fails
+
+// A line on standard error: what failed, a colon, and the system's words without its number. What cannot be told is let go.
+pub fn fail<R: Eprint + AllocGlobal>(rt: &R, what: &str, error: Error) {
+    let told = match format!(in rt.alloc(); "{error}") {
+        Ok(text) => match text.as_str().split_once(" (os error ") {
+            Some((reason, _)) => eprintln!(rt; "{what}: {reason}"),
+            None => eprintln!(rt; "{what}: {text}"),
+        },
+        Err(_) => eprintln!(rt; "{what}: {error}"),
+    };
+    told.is_ok();
+}
+
 // ---- reading
 
 // Reads once, behind the k bytes that are kept, which stay as they are; none come where the input has ended.
-fn read_once(fd: i32, buf: &mut [u8], k: usize) -> Moved
+fn read_once<F: Read>(from: &mut F, buf: &mut [u8], k: usize) -> io::Result<usize>
     requires { k ≤ length buf.old }
-    ensures { (k + result.n ≤ length buf.new) × (length buf.new ≡ length buf.old) × (take k buf.new ≡ take k buf.old) }
+    ensures bound { IfOk result (λ n. k + n ≤ length buf.new) }
+    ensures kept { (length buf.new ≡ length buf.old) × (take k buf.new ≡ take k buf.old) }
 {
-    let got = libc::read(fd, &mut buf[k..]);
-    let n = io::count(got, &buf[k..]);
-    Moved { n, failed: got < 0 }
+    from.read(&mut buf[k..])
 }
 
-// The same, again where a signal interrupts it.
-pub fn read(fd: i32, buf: &mut [u8], k: usize) -> Moved
+// The same, again where a signal interrupts it. What fails is told as `what`'s.
+pub fn read<R: Eprint + AllocGlobal, F: Read>(
+    rt: &R,
+    from: &mut F,
+    what: &str,
+    buf: &mut [u8],
+    k: usize,
+) -> Moved
     requires { k ≤ length buf.old }
     ensures { (k + result.n ≤ length buf.new) × (length buf.new ≡ length buf.old) × (take k buf.new ≡ take k buf.old) }
 {
-    let mut tries = endless();
-    while tries > 0 {
-        let got = read_once(fd, buf, k);
-        if !got.failed {
-            return got;
+    for _ in 0..endless() {
+        match read_once(from, buf, k) {
+            Ok(n) => return Moved { n, failed: false },
+            Err(error) => {
+                if error.kind() != ErrorKind::Interrupted {
+                    fail(rt, what, error);
+                    return Moved { n: 0, failed: true };
+                }
+            }
         }
-        if os::errno() != EINTR {
-            return got;
-        }
-        tries -= 1;
     }
     Moved { n: 0, failed: true }
 }
 
 // From standard input.
-pub fn fill(buf: &mut [u8], k: usize) -> Moved
+pub fn fill<R: Input + Eprint + AllocGlobal>(rt: &R, buf: &mut [u8], k: usize) -> Moved
     requires { k ≤ length buf.old }
     ensures { (k + result.n ≤ length buf.new) × (length buf.new ≡ length buf.old) × (take k buf.new ≡ take k buf.old) }
 {
-    let got = read(STDIN_FILENO, buf, k);
-    if got.failed {
-        os::fail(b"standard input");
-    }
-    got
+    let mut from = rt.reader();
+    read(rt, &mut from, "standard input", buf, k)
 }
 
 // ---- writing
 
 // Writes once what stands behind the first `done` bytes.
-fn write_once(fd: i32, buf: &[u8], done: usize) -> Moved
+fn write_once<R: Print>(rt: &R, buf: &[u8], done: usize) -> io::Result<usize>
     requires { done ≤ length buf.now }
-    ensures { done + result.n ≤ length buf.now }
+    ensures { IfOk result (λ n. done + n ≤ length buf.now) }
 {
-    let got = libc::write(fd, &buf[done..]);
-    let n = io::count(got, &buf[done..]);
-    Moved { n, failed: got < 0 }
+    rt.write_some(&buf[done..])
 }
 
-// Whether to write again: something was taken, or a signal interrupted it.
-fn goes_on(put: Moved) -> bool {
-    if put.failed {
-        return os::errno() == EINTR;
-    }
-    put.n > 0
-}
-
-// Writes all of it, and says whether all was taken.
-pub fn write(fd: i32, buf: &[u8]) -> bool {
+// Writes all of it.
+pub fn write<R: Print>(rt: &R, buf: &[u8]) -> io::Result<()> {
     let mut done: usize = 0;
-    let mut tries = endless();
-    while tries > 0 {
+    for _ in 0..endless() {
         if done == buf.len() {
-            return true;
+            return Ok(());
         }
-        let put = write_once(fd, buf, done);
-        if !goes_on(put) {
-            return false;
+        match write_once(rt, buf, done) {
+            Ok(0) => return Err(Error::from(ErrorKind::WriteZero)),
+            Ok(n) => done += n,
+            Err(error) => {
+                if error.kind() != ErrorKind::Interrupted {
+                    return Err(error);
+                }
+            }
         }
-        done += put.n;
-        tries -= 1;
     }
-    false
+    Err(Error::from(ErrorKind::WriteZero))
 }
 
-// To standard output.
-pub fn put(buf: &[u8]) -> bool {
-    let is_taken = write(STDOUT_FILENO, buf);
-    if !is_taken {
-        os::fail(b"standard output");
+// To standard output, and whether all was taken. What fails is told.
+pub fn put<R: Print + Eprint + AllocGlobal>(rt: &R, buf: &[u8]) -> bool {
+    match write(rt, buf) {
+        Ok(()) => true,
+        Err(error) => {
+            fail(rt, "standard output", error);
+            false
+        }
     }
-    is_taken
 }

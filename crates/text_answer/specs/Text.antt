@@ -1,6 +1,6 @@
 -- The text of an answer ('The session player'): `OK`, `OK vvvvvvvv`, `NO n`, each with its LF.
 use Rattle.std.specs.Prelude.{List, [], ◌∷◌, ◌++◌, ℕ, ◌/◌, ◌%◌}
-use Rattle.bits.specs.Choice.{if◌then◌else◌, ◌<?◌}
+use Rattle.bits.specs.Choice.{when◌then◌else◌, ◌<?◌}
 use Rattle.line_forms.specs.Ascii.{ascii}
 use Rattle.line_forms.specs.Hex.{up_of, hex_of}
 use Rattle.answer.specs.Refusals.{Reply, fine, ok, no}
@@ -11,7 +11,7 @@ ok_text = ascii "OK\n"
 
 -- a refusal's number in decimal: one digit, or two (of a larger one its last two)
 abbrev pub decimal_of : ℕ → List ℕ
-decimal_of n = if n <? 10 then up_of n ∷ [] else up_of (n / 10 % 10) ∷ up_of (n % 10) ∷ []
+decimal_of n = when n <? 10 then up_of n ∷ [] else up_of (n / 10 % 10) ∷ up_of (n % 10) ∷ []
 
 -- NO n
 unfoldable pub no_text : ℕ → List ℕ

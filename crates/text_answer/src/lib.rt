@@ -1,4 +1,6 @@
 // The text of an answer, put at a place of a buffer.
+#![tactic(auto)]
+
 ghost use Rattle.std.specs.Prelude.{◌≡◌, ◌++◌, ◌+◌, ◌<◌, ◌≤◌, length, take};
 ghost use Rattle.answer.specs.Said.{says};
 ghost use Rattle.line_forms.specs.Hex.{up_of};

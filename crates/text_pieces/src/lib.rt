@@ -1,4 +1,6 @@
 // Pieces of text put at a place of a buffer: words, numbers of two and of eight hex digits, and both with LF.
+#![tactic(auto)]
+
 ghost use Rattle.std.specs.Prelude.{◌≡◌, ◌++◌, ◌+◌, ◌%◌, ◌≤◌, length, take};
 ghost use Rattle.line_forms.specs.Hex.{up_of, hex_of};
 ghost use Rattle.text_pieces.specs.Pieces.{end};

@@ -1,6 +1,6 @@
 -- The text of the console's answers: the player's, and those of claims, probes and walks.
 use Rattle.std.specs.Prelude.{List, [], ◌++◌, ℕ}
-use Rattle.bits.specs.Choice.{if◌then◌else◌, ◌is◌}
+use Rattle.bits.specs.Choice.{when◌then◌else◌, ◌is◌}
 use Rattle.rules.specs.Claims.{Claimed, unclaimed, claimed, Window, translation, aperture, io}
 use Rattle.probe.specs.Probe as P
 use Rattle.text_answer.specs.Text.{no_text, reply_text}
@@ -34,7 +34,7 @@ kind_text P.memory64 = ascii "OK MEM64 "
 
 -- a probe: the kind and the exponent, or `NO 8`
 abbrev pub probe_text : P.Reply → List ℕ
-probe_text r = if r.number is 0 then kind_text r.kind ++ (hex_of 2 r.exponent ++ end) else no_text r.number
+probe_text r = when r.number is 0 then kind_text r.kind ++ (hex_of 2 r.exponent ++ end) else no_text r.number
 
 -- whatever is told
 unfoldable pub said_text : Said → List ℕ

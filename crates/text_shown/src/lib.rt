@@ -1,4 +1,6 @@
 // The text of what a look shows, at most 24 bytes, put at a place of a buffer.
+#![tactic(auto)]
+
 ghost use Rattle.std.specs.Prelude.{◌≡◌, ◌++◌, ◌+◌, ◌≤◌, length, take};
 ghost use Rattle.rules.specs.Answers.{claim_says};
 ghost use Rattle.probe.specs.Probe.{probe_says};

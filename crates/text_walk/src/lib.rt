@@ -1,4 +1,6 @@
 // The text of what a walk shows, at most 24 bytes, put at a place of a buffer.
+#![tactic(auto)]
+
 ghost use Rattle.std.specs.Prelude.{◌≡◌, ◌++◌, ◌+◌, ◌≤◌, length, take};
 ghost use Rattle.walk.specs.Walk.{says_of};
 ghost use Rattle.line_forms.specs.Ascii.{ascii};

@@ -1,4 +1,6 @@
 // The twin's entries over a state by value: guest read and write, host update, end signal, platform reset.
+#![tactic(auto)]
+
 ghost use Rattle.std.specs.Prelude.{◌≡◌};
 ghost use Rattle.rules.specs.Guest.{write_of};
 ghost use Rattle.rules.specs.Read.{read_of, image_of};

@@ -2,7 +2,7 @@
 use mathlib.Core.Path.{◌≡◌, refl}
 use mathlib.Core.List.{List}
 use Prim.Native.Nat.{ℕ}
-use Rattle.bits.specs.Choice.{if◌then◌else◌, ◌is◌}
+use Rattle.bits.specs.Choice.{when◌then◌else◌, ◌is◌}
 use Rattle.answer.specs.Refusals.{LENGTH, POINTER}
 use Rattle.answer.proofs.Agree.{one_answer}
 use Rattle.walk.specs.declared.Found.{Found}
@@ -13,10 +13,10 @@ use Rattle.walk.specs.Walk.{Reply, walk_of, says_of, walk_says}
 -- the end of which a reply is said
 abbrev ends : Reply → Found
 ends r =
-    if r.found then F.At r.offset
-    else if r.number is 0 then F.Absent
-    else if r.number is LENGTH then F.Length
-    else if r.number is POINTER then F.Pointer
+    when r.found then F.At r.offset
+    else when r.number is 0 then F.Absent
+    else when r.number is LENGTH then F.Length
+    else when r.number is POINTER then F.Pointer
     else F.Endless
 
 abbrev pub walk_hears : Reply → Walked

@@ -2,21 +2,21 @@
 use mathlib.Core.Path.{◌≡◌, refl}
 use mathlib.Core.List.{List, []}
 use Prim.Native.Nat.{ℕ, ◌+◌, ◌%◌}
-use Rattle.bits.specs.Choice.{if◌then◌else◌, ◌is◌, ◌<?◌}
+use Rattle.bits.specs.Choice.{when◌then◌else◌, ◌is◌, ◌<?◌}
 use Rattle.bits.specs.Places.{bytes}
 use Rattle.walk.specs.Walk.{found_at, absent, refused, walk_from, walk_of}
 
 -- 256 bytes: byte 06h and byte 34h as given, and f from 40h on
 abbrev list : ℕ → ℕ → (ℕ → ℕ) → List ℕ
-list status first f = bytes (λ (i : ℕ). if i is 0x06 then status else if i is 0x34 then first else if i <? 0x40 then 0 else f i)
+list status first f = bytes (λ (i : ℕ). when i is 0x06 then status else when i is 0x34 then first else when i <? 0x40 then 0 else f i)
 
 -- two items: ID 05 at 40h, and ID 13 at 50h, whose next pointer is last
 abbrev two : ℕ → ℕ → ℕ
-two last i = if i is 0x40 then 0x05 else if i is 0x41 then 0x50 else if i is 0x50 then 0x13 else if i is 0x51 then last else 0
+two last i = when i is 0x40 then 0x05 else when i is 0x41 then 0x50 else when i is 0x50 then 0x13 else when i is 0x51 then last else 0
 
 -- an item at each of the 48 dwords from 40h on, each pointing at the next; the last points at `last`
 abbrev chain : ℕ → ℕ → ℕ
-chain last i = if i is 0xFD then last else if i % 4 is 1 then i + 3 else 0x01
+chain last i = when i is 0xFD then last else when i % 4 is 1 then i + 3 else 0x01
 
 pub record Walked : Type 0 where
   -- a buffer that isn't 256 bytes

@@ -1,7 +1,7 @@
 -- The capability walk ('Claims, probe, walk').
 use Rattle.std.specs.Prelude.{List, Bool, true, false, not, ℕ, zero, suc, ◌+◌, ◌*◌, ◌/◌, length, get_or}
 use Rattle.bits.specs.Bits.{bit}
-use Rattle.bits.specs.Choice.{if◌then◌else◌, ◌is◌, ◌<?◌}
+use Rattle.bits.specs.Choice.{when◌then◌else◌, ◌is◌, ◌<?◌}
 use Rattle.answer.specs.Refusals.{LENGTH, POINTER, ENDLESS}
 use Rattle.map.specs.Registers.{PCISTS2, CAPPOINT}
 use Rattle.walk.specs.declared.Found.{Found}
@@ -46,8 +46,8 @@ dropped p = p / 4 * 4
 -- the first two stops, of a pointer at after n items: pointer 0, pointer 04h to 3Ch; else what comes further
 abbrev pub stops : ℕ → ℕ → Reply → Reply
 stops at n further =
-    if at is 0 then absent n
-    else if at <? 0x40 then refused POINTER n
+    when at is 0 then absent n
+    else when at <? 0x40 then refused POINTER n
     else further
 
 -- from the pointer p, with n items visited and so many more allowed: the third stop is none allowed, the fourth the wanted ID at the item
@@ -55,7 +55,7 @@ unfoldable pub walk_from : ℕ → List ℕ → ℕ → ℕ → ℕ → Reply
 walk_from zero s want p n = stops (dropped p) n (refused ENDLESS n)
 walk_from (suc more) s want p n =
     stops (dropped p) n
-    (if get_or s (dropped p) 0 is want then found_at (dropped p) (n + 1) else walk_from more s want (get_or s (dropped p + 1) 0) (n + 1))
+    (when get_or s (dropped p) 0 is want then found_at (dropped p) (n + 1) else walk_from more s want (get_or s (dropped p + 1) 0) (n + 1))
 
 -- items that may be visited
 abbrev pub most : ℕ
@@ -63,6 +63,6 @@ most = 48
 
 unfoldable pub walk_of : List ℕ → ℕ → Reply
 walk_of s want =
-    if not (length s is 256) then refused LENGTH 0
-    else if bit (get_or s PCISTS2 0) 4 is 0 then absent 0
+    when not (length s is 256) then refused LENGTH 0
+    else when bit (get_or s PCISTS2 0) 4 is 0 then absent 0
     else walk_from most s want (get_or s CAPPOINT 0) 0

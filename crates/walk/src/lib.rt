@@ -1,9 +1,11 @@
 // The capability walk, over the 256 bytes of a function as a guest reads them.
+#![tactic(auto)]
+
 ghost use Rattle.std.specs.Prelude.{◌≡◌, length};
 ghost use Rattle.walk.specs.Walk.{walk_of, walk_says, walk_from, most};
 
 // How a walk ends: refused for its buffer's length, absent, a bad pointer, endless, or found at an offset.
-#[derive(Drop)]
+#[derive(Clone, Copy)]
 pub enum Found {
     Length,
     Absent,
@@ -13,7 +15,7 @@ pub enum Found {
 }
 
 // The end, and the number of items visited, the found one included.
-#[derive(Drop)]
+#[derive(Clone, Copy)]
 pub struct Walked {
     pub found: Found,
     pub count: u32,

@@ -1,0 +1,11 @@
+-- A guest read in the window.
+use mathlib.Core.Path.{sym, ap, ◌∙◌}
+use Rattle.access.specs.Access.{admits}
+use Rattle.mmio.proofs.Entry.{read_refused, read_made}
+use Rattle.mmio.proofs.read.Goals as goal
+
+pub returns-in-No : goal.returns-in-No
+returns-in-No c = read_refused _ _ _ _ (sym (ap admits c.in-No.is) ∙ c.admitted.ensures)
+
+pub returns-in-Yes : goal.returns-in-Yes
+returns-in-Yes c = rw c.value.ensures (read_made _ _ _ (sym (ap admits c.in-Yes.is) ∙ c.admitted.ensures))

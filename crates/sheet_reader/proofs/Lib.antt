@@ -1,5 +1,0 @@
-pub mod Answers
-pub mod Apart
-pub mod Held
-pub mod Made
-pub mod Walked
