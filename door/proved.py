@@ -40,20 +40,22 @@ def faults_of(name):
 
 # ---- building
 
-def crates():
-    """The crates of crates.txt, each with those that it names; the kit's own do not count."""
-    listed = {}
-    with open(path_of("crates.txt"), encoding="utf-8") as file:
-        for line in file:
-            name, colon, rest = line.partition("#")[0].partition(":")
-            if colon:
-                listed[name.split()[0]] = rest.split()
-    return {name: [one for one in needs if one in listed] for name, needs in listed.items()}
+def crate_lines(root=ROOT):
+    """The crates of a repository's crates.txt, each with its line."""
+    with open(os.path.join(root, "crates.txt"), encoding="utf-8") as file:
+        listed = (line.partition("#")[0].strip() for line in file)
+        return {line.partition(":")[0].split()[0]: line for line in listed if ":" in line}
 
 
-def stands_on(name):
-    """The crates that a program stands on, each after those that it stands on itself, and itself last."""
-    listed, found = crates(), []
+def crates(root=ROOT):
+    """The same, each with those that it names; the kit's own do not count."""
+    listed = crate_lines(root)
+    return {name: [one for one in line.partition(":")[2].split() if one in listed] for name, line in listed.items()}
+
+
+def stands_on(name, root=ROOT):
+    """The crates that one stands on, each after those that it stands on itself, and itself last."""
+    listed, found = crates(root), []
 
     def add(one):
         if one not in found:

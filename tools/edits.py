@@ -11,12 +11,16 @@ import os
 import re
 import shutil
 import subprocess
+import sys
 import tempfile
 import threading
 import time
 from concurrent.futures import FIRST_COMPLETED, ThreadPoolExecutor, wait
 
-PARTS = ("src", "specs", "proofs")
+sys.path.insert(0, os.path.dirname(os.path.dirname(os.path.abspath(__file__))))
+from door import proved  # noqa: E402, the repository's own
+
+PARTS = proved.SOURCES
 EACH = 2_500_000_000  # bytes of memory that a check may want
 DAYS = 30  # after which a log that nobody asked for goes
 
@@ -87,25 +91,7 @@ def text_of(path):
         return file.read()
 
 
-# ---- what a crate stands on
-
-
-def crates_of(top):
-    """The lines of crates.txt by their crates, and the crates of the repository that each names."""
-    lines = {}
-    for line in text_of(os.path.join(top, "crates.txt")).split("\n"):
-        line = line.partition("#")[0].strip()
-        if line:
-            lines[re.match(r"\w+", line)[0]] = line
-    return lines, {name: [it for it in line.partition(":")[2].split() if it in lines] for name, line in lines.items()}
-
-
-def below(needs, crate):
-    """What a crate stands on, of the repository's crates, each after those that it stands on; itself left out."""
-    found = []
-    for name in needs.get(crate, []):
-        found += [it for it in [*below(needs, name), name] if it not in found]
-    return found
+# ---- an edit, made
 
 
 def files_of(folder):
@@ -184,8 +170,7 @@ def in_room(name):
 
 def copied(top, crate, root):
     """Makes a copy of a crate and of what it stands on, with what is proved of them in the checkout."""
-    lines, needs = crates_of(top)
-    names = below(needs, crate) + [crate]
+    lines, names = proved.crate_lines(top), proved.stands_on(crate, top)
     os.makedirs(root)
     with open(os.path.join(root, "crates.txt"), "w", encoding="utf-8") as file:
         file.write("".join(lines[name] + "\n" for name in names))
@@ -226,7 +211,7 @@ class Logs:
         if not shutil.which("rt"):
             raise Mistake("rt, the Rattle toolchain, is not on the path")
         self.top, self.say, self.sums, self.told = top, say, {}, {}
-        self.lines, self.needs = crates_of(top)
+        self.lines = proved.crate_lines(top)
         self.kept = os.path.join(store(), "held")
         os.makedirs(self.kept, exist_ok=True)
         version = subprocess.run(["rt", "version"], stdin=subprocess.DEVNULL, stdout=subprocess.PIPE)
@@ -244,7 +229,7 @@ class Logs:
         return self.sums[crate]
 
     def key(self, crate, changed):
-        read_by = [(name, self.sum_of(name)) for name in [*below(self.needs, crate), crate]]
+        read_by = [(name, self.sum_of(name)) for name in proved.stands_on(crate, self.top)]
         return hashlib.sha256(repr((self.version, read_by, changed)).encode()).hexdigest()
 
     def log(self, crate, changed):

@@ -241,6 +241,20 @@ class Sheets(Test):
             with self.subTest(line):
                 self.refused(twin("sheet", "play", "examples/uart.sheet", given=line + "\n"), ":1: ")
 
+    def test_a_name_that_is_no_text(self):
+        # the file's own name, and the folder's
+        for path in (os.path.join(os.fsencode(self.room), b"a\xff.sheet"), os.path.join(os.fsencode(self.room), b"\xc3\x28", b"a.sheet")):
+            with self.subTest(path):
+                os.makedirs(os.path.dirname(path), exist_ok=True)
+                shutil.copyfile(os.path.join(TOP, "examples", "uart.sheet"), path)
+                name = os.fsdecode(path)
+                self.assertEqual(text_of("tests/data/uart.table"), twin("sheet", "show", name).out)
+                self.assertEqual(text_of("tests/data/uart.stdout"), twin("sheet", "play", name, "examples/uart.session").out)
+                with open(path, "wb") as file:
+                    file.write(b"\x01\x10\x09\x05\x00")
+                for deed in ("show", "play"):
+                    self.refused(twin("sheet", deed, name, given="R 00 F\n"), ".sheet: entry 1 at 10: its length is 9, and a register has 1 to 8 bytes")
+
     def test_a_refused_sheet(self):
         path = self.put("bad.sheet", b"\x01\x10\x09\x05\x00")
         for words in (["show", path], ["play", path]):

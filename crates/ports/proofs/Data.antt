@@ -59,6 +59,12 @@ data_access latch p w g e n =
     let least : 1 ≤ w = some w (good_width w g) in
     record { width = good_width w g; room = omega arith; lane = omega arith }
 
+-- as the code asks it
+pub data_fits : (latch p w : ℕ) → bad_width w ≡ false → not_ours latch p w ≡ false → at_latch p w ≡ false → Width w × (p % 4 + w ≤ 4)
+data_fits latch p w g e n =
+    let d = data_access latch p w g e n in
+    (d.width, d.room)
+
 -- ---- a read
 
 -- w bytes from byte a of a dword are those that a guest reads

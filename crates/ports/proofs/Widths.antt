@@ -1,6 +1,6 @@
 -- w bytes from byte a of a dword: they fit, and they are what the rules place and take, once over the width.
 use mathlib.Core.Path.{◌≡◌, refl, subst, sym}
-use mathlib.Core.Logic.{⊎_elim, ◌⊎◌, inl, inr}
+use mathlib.Core.Logic.{⊎_elim, inl, inr}
 use mathlib.Core.Bool.{Bool, true, false}
 use Prim.Native.Nat.{ℕ, ◌+◌, ◌^◌, ◌<◌, ◌≤◌}
 use native.Mathlib.Nat.{mod-lt, one-le-pow, mul-lt-mul_of_pos_right, lt_of_lt_of_le, pow-le-pow_right}

@@ -168,6 +168,7 @@ fn latched(value: u32) -> u32
 // ---- the entries
 
 // A read of `width` bytes at `port`.
+#[tactic(auto, using(crate::proofs::Data::data_fits), unfolding(rules::specs::Ports::port_read_of))]
 pub fn port_read(s: State, port: u16, width: u32) -> Answer
     ensures { says result ≡ port_read_of s port width }
 {
@@ -190,6 +191,7 @@ pub fn port_read(s: State, port: u16, width: u32) -> Answer
 }
 
 // A write of the low `width` bytes of `value` at `port`.
+#[tactic(auto, using(crate::proofs::Data::data_fits), unfolding(rules::specs::Ports::port_write_of))]
 pub fn port_write(s: State, port: u16, width: u32, value: u32) -> Stepped
     ensures { stepped result ≡ port_write_of s port width value }
 {
