@@ -33,10 +33,10 @@ class Mistake(Exception):
 
 
 class Change:
-    """A named wrong program: what must fail, its name, and the replacements, each a file, its old text and its new one."""
+    """A named wrong program: what must fail, whose names those may be, its own name, and the replacements, each a file, its old text and its new one."""
 
     def __init__(self, fails, what):
-        self.fails, self.what, self.replacements = fails, what, []
+        self.fails, self.meant, self.what, self.replacements = fails, {fails}, what, []
 
     def in_code(self):
         return bool(self.replacements) and all(file.startswith("src/") for file, _, _ in self.replacements)

@@ -62,4 +62,4 @@ class Edits(Test):
         self.assertNotEqual(texts["src/lib.rt"], text_of("crates/twin/src/lib.rt"))
         self.assertEqual(1, sum(line.startswith("-") and not line.startswith("---") for line in lines))
         self.assertEqual(1, sum(line.startswith("+") and not line.startswith("+++") for line in lines))
-        self.assertIn("+    let _after = w.flags; let after = c;", lines)
+        self.assertIn("+    let answer = guest_write::write(&mut t.bytes, &guest, &mut { t.flags }, offset, lanes, value);", lines)

@@ -1,7 +1,6 @@
 -- What is asked of an access, by example, in the paper's numbers: the offset before the lanes, and zero beside a refusal.
 use mathlib.Core.Path.{◌≡◌, refl}
 use mathlib.Core.Bool.{true, false}
-use Prim.Native.Nat.{ℕ}
 use Rattle.answer.specs.Refusals.{fine, ok, no, OFFSET}
 use Rattle.access.specs.Access.{enabled, byte_for, bad_offset, admit, reply_at}
 

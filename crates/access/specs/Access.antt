@@ -1,11 +1,10 @@
 -- An access of the dword at offset o with lanes l: which bytes it enables, and what is asked of it before it is made.
-use Rattle.std.specs.Prelude.{Bool, not, ℕ, ◌+◌, ◌-◌, ◌/◌, ◌%◌, ◌^◌}
+use Rattle.std.specs.Prelude.{Result, Ok, Err, Bool, not, ℕ, ◌+◌, ◌-◌, ◌/◌, ◌%◌, ◌^◌}
 use Rattle.bits.specs.Bits.{bit}
 use Rattle.bits.specs.Choice.{when◌then◌else◌, ◌and◌, ◌or◌, ◌is◌, ◌≤?◌, ◌<?◌}
 use Rattle.answer.specs.Refusals.{Reply, fine, ok, no, LANES}
 use Rattle.answer.specs.Said.{number_of}
-use Rattle.access.specs.declared.Admitted.{Admitted}
-use Rattle.access.specs.declared.Admitted.TheVariants as A
+use Rattle.answer.specs.declared.Refusal.{Refusal}
 
 -- bit i of the lanes is for byte offset + i
 unfoldable pub enabled : ℕ → ℕ → ℕ → Bool
@@ -37,6 +36,6 @@ abbrev pub reply_at : Bool → ℕ → ℕ → ℕ → Reply
 reply_at bad n l value = admit bad n l no (ok value)
 
 -- what the code asks first
-abbrev pub admits : Admitted → Reply
-admits A.Yes = fine
-admits (A.No r) = no (number_of r)
+abbrev pub admits : {A : Type 0} → Result A Refusal → Reply
+admits (Ok _) = fine
+admits (Err r) = no (number_of r)

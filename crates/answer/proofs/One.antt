@@ -1,13 +1,12 @@
 -- What is said fixes the answer: no two answers say the same, and no two refusals have one number.
 use mathlib.Core.Path.{◌≡◌, refl, ap}
 use Prim.Native.Nat.{ℕ}
+use Rattle.std.specs.Prelude.{None, Some, Ok, Err}
 use Rattle.bits.specs.Choice.{when◌then◌else◌, ◌is◌}
 use Rattle.answer.specs.Refusals.{Reply, fine, ok, no, LENGTH, WIDTH, NOT_OURS, OTHER_FUNCTION, OFFSET, LANES, NOT_HOST, NO_RANGE, LINE, POINTER, ENDLESS, SHEET_LENGTH, SHEET_CONTENTS, SHEET_BODY}
-use Rattle.answer.specs.Said.{number_of, says}
+use Rattle.answer.specs.Said.{Answer, number_of, says}
 use Rattle.answer.specs.declared.Refusal.{Refusal}
 use Rattle.answer.specs.declared.Refusal.TheVariants as R
-use Rattle.answer.specs.declared.Answer.{Answer}
-use Rattle.answer.specs.declared.Answer.TheVariants as A
 use Rattle.answer.proofs.Agree.{one_answer}
 
 -- ---- what is said is heard again
@@ -48,14 +47,14 @@ refusal_heard R.SheetBody = refl
 refusal_heard R.WindowOffset = refl
 
 abbrev pub hears : Reply → Answer
-hears fine = A.Done
-hears (ok v) = A.Value v
-hears (no n) = A.No (refusal_of n)
+hears fine = Ok None
+hears (ok v) = Ok (Some v)
+hears (no n) = Err (refusal_of n)
 
 pub heard : (a : Answer) → hears (says a) ≡ a
-heard A.Done = refl
-heard (A.Value v) = refl
-heard (A.No r) = ap A.No (refusal_heard r)
+heard (Ok None) = refl
+heard (Ok (Some v)) = refl
+heard (Err r) = ap Err (refusal_heard r)
 
 -- ---- so a promise of the form `says r ≡ x` fixes the answer r
 

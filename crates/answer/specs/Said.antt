@@ -1,10 +1,8 @@
 -- The paper's number of each refusal ('Refusal numbers'), and what an answer says.
-use Rattle.std.specs.Prelude.{ℕ}
+use Rattle.std.specs.Prelude.{ℕ, Option, None, Some, Result, Ok, Err}
 use Rattle.answer.specs.Refusals.{Reply, fine, ok, no, LENGTH, WIDTH, NOT_OURS, OTHER_FUNCTION, OFFSET, LANES, NOT_HOST, NO_RANGE, LINE, POINTER, ENDLESS, SHEET_LENGTH, SHEET_CONTENTS, SHEET_BODY, WINDOW_OFFSET}
 use Rattle.answer.specs.declared.Refusal.{Refusal}
 use Rattle.answer.specs.declared.Refusal.TheVariants as R
-use Rattle.answer.specs.declared.Answer.{Answer}
-use Rattle.answer.specs.declared.Answer.TheVariants as A
 
 abbrev pub number_of : Refusal → ℕ
 number_of R.Length = LENGTH
@@ -23,7 +21,11 @@ number_of R.SheetContents = SHEET_CONTENTS
 number_of R.SheetBody = SHEET_BODY
 number_of R.WindowOffset = WINDOW_OFFSET
 
+-- accepted, accepted with a value, or refused
+abbrev pub Answer : Type 0
+Answer = Result (Option ℕ) Refusal
+
 abbrev pub says : Answer → Reply
-says A.Done = fine
-says (A.Value v) = ok v
-says (A.No r) = no (number_of r)
+says (Ok None) = fine
+says (Ok (Some v)) = ok v
+says (Err r) = no (number_of r)

@@ -1,55 +1,42 @@
-// The paper's refusals, what an entry answers, and the number of a refusal. A refusal more is a line here, one in `number` and one in specs/Said.antt.
+// The paper's refusals and their numbers, and what an entry answers. A refusal more is a line here and one in specs/Said.antt.
 #![tactic(auto)]
 
 ghost use Rattle.std.specs.Prelude.{◌≡◌};
 ghost use Rattle.answer.specs.Said.{number_of};
 
-#[derive(Clone, Copy)]
+// The paper's number stands beside each.
+#[derive(Clone, Copy, Debug, PartialEq, Eq)]
 pub enum Refusal {
-    Length,
-    Width,
-    NotOurs,
-    OtherFunction,
-    Offset,
-    Lanes,
-    NotHost,
-    NoRange,
-    Line,
-    Pointer,
-    Endless,
-    SheetLength,
-    SheetContents,
-    SheetBody,
-    WindowOffset,
+    Length = 1,
+    Width = 2,
+    NotOurs = 3,
+    OtherFunction = 4,
+    Offset = 5,
+    Lanes = 6,
+    NotHost = 7,
+    NoRange = 8,
+    Line = 9,
+    Pointer = 10,
+    Endless = 11,
+    SheetLength = 12,
+    SheetContents = 13,
+    SheetBody = 14,
+    WindowOffset = 16,
 }
 
 // Accepted; accepted with a value; refused.
+pub type Answer = Result<Option<u32>, Refusal>;
+
+// What is answered, and the state afterwards.
 #[derive(Clone, Copy)]
-pub enum Answer {
-    Done,
-    Value(u32),
-    No(Refusal),
+pub struct Stepped<S> {
+    pub answer: Answer,
+    pub state: S,
 }
 
 // The paper's number.
 pub fn number(r: Refusal) -> u32
     ensures { result ≡ number_of r }
 {
-    match r {
-        Refusal::Length => 1,
-        Refusal::Width => 2,
-        Refusal::NotOurs => 3,
-        Refusal::OtherFunction => 4,
-        Refusal::Offset => 5,
-        Refusal::Lanes => 6,
-        Refusal::NotHost => 7,
-        Refusal::NoRange => 8,
-        Refusal::Line => 9,
-        Refusal::Pointer => 10,
-        Refusal::Endless => 11,
-        Refusal::SheetLength => 12,
-        Refusal::SheetContents => 13,
-        Refusal::SheetBody => 14,
-        Refusal::WindowOffset => 16,
-    }
+    r as u32
 }

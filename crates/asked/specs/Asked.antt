@@ -1,4 +1,5 @@
 -- What is told to whatever is asked, and the state afterwards: an event happens, a look leaves the state, and nothing is refused as a line of no form.
+use Rattle.std.specs.Prelude.{Option, None, Some}
 use Rattle.answer.specs.Refusals.{Reply, no, LINE}
 use Rattle.answer.specs.Said.{says}
 use Rattle.rules.specs.declared.State.{State}
@@ -44,10 +45,10 @@ sight_of (L.Walk i) s = item (W.walk_of (image_of s) i)
 abbrev pub event_response : Outcome → Response
 event_response o = record { said = answer o.reply; state = o.state }
 
-abbrev pub response_of : Asked → State → Response
-response_of (Q.Event e) s = event_response (happens e s)
-response_of (Q.Look k) s = record { said = sight_of k s; state = s }
-response_of Q.Nothing s = record { said = answer (no LINE); state = s }
+abbrev pub response_of : Option Asked → State → Response
+response_of (Some (Q.Event e)) s = event_response (happens e s)
+response_of (Some (Q.Look k)) s = record { said = sight_of k s; state = s }
+response_of None s = record { said = answer (no LINE); state = s }
 
 -- ---- what the code's records say
 

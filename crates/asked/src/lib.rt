@@ -2,7 +2,7 @@
 #![tactic(auto)]
 
 use answer::Answer;
-use probe::Probed;
+use probe::Range;
 use rules::{Claim, Event, State};
 use walk::Found;
 
@@ -15,18 +15,18 @@ pub enum Look {
     Walk(u8),
 }
 
+// A line of no form, and a number that names no operation, ask none of them.
 #[derive(Clone, Copy)]
 pub enum Asked {
     Event(Event),
     Look(Look),
-    Nothing,
 }
 
 // What a look shows: a claim, a range, or how a walk ended and its count.
 #[derive(Clone, Copy)]
 pub enum Shown {
-    Claimed(Claim),
-    Range(Probed),
+    Claimed(Option<Claim>),
+    Range(Option<Range>),
     Item(Found, u32),
 }
 

@@ -22,6 +22,8 @@ const IO: u64 = 64;
 
 // ---- registers
 
+#[tactic(auto, using(crate::proofs::Bases::four_bytes))]
+// `plain_device` has one of its own: each is one call, by another definition.
 fn dword(m: &[u8; 256], at: usize) -> u32
     requires { at + 3 < 256 }
     ensures { result ≡ register_at 4 m.now at }
@@ -29,6 +31,7 @@ fn dword(m: &[u8; 256], at: usize) -> u32
     bits::join(m[at], m[at + 1], m[at + 2], m[at + 3])
 }
 
+#[tactic(auto, using(crate::proofs::Bases::two_dwords))]
 fn qword(m: &[u8; 256], at: usize) -> u64
     requires { at + 7 < 256 }
     ensures { result ≡ register_at 8 m.now at }
@@ -59,22 +62,24 @@ fn offset(size: u64, address: u64) -> u32
 
 // ---- the aperture
 
-fn in_aperture(base: u64, size: u64, address: u64) -> Claim
+#[tactic(auto, unfolding(crate::specs::Windows::in_aperture))]
+fn in_aperture(base: u64, size: u64, address: u64) -> Option<Claim>
     requires { (0 < size) × (size ≤ 2 ^ 32) }
     ensures { claim_says result ≡ in_aperture base size address }
 {
     if holds(base, size, address) {
-        return Claim::Aperture(offset(size, address));
+        return Some(Claim::Aperture(offset(size, address)));
     }
-    Claim::None
+    None
 }
 
 // The size is named by the size code; code 10 claims no aperture.
-fn aperture(base: u64, code: u8, address: u64) -> Claim
+#[tactic(auto, using(bits::proofs::Tests::tests), unfolding(crate::specs::Windows::aperture_of, rules::specs::Device::bits_taken))]
+fn aperture(base: u64, code: u8, address: u64) -> Option<Claim>
     ensures { claim_says result ≡ aperture_of base code address }
 {
     if code == 2 {
-        return Claim::None;
+        return None;
     }
     if code == 3 {
         return in_aperture(base, APERTURE_11, address);
@@ -88,23 +93,25 @@ fn aperture(base: u64, code: u8, address: u64) -> Claim
 // ---- memory and I/O, where they are enabled
 
 // If both windows hold the address, GTTMMADR answers.
-fn memory(m: &[u8; 256], address: u64) -> Claim
+#[tactic(auto, unfolding(crate::specs::Windows::memory_of))]
+fn memory(m: &[u8; 256], address: u64) -> Option<Claim>
     ensures { claim_says result ≡ memory_of m.now address }
 {
     if holds(qword(m, map::GTTMMADR), TRANSLATION, address) {
-        return Claim::Translation(offset(TRANSLATION, address));
+        return Some(Claim::Translation(offset(TRANSLATION, address)));
     }
     aperture(qword(m, map::GMADR), m[map::MSAC] / 2 % 4, address)
 }
 
-fn io(m: &[u8; 256], port: u16) -> Claim
+#[tactic(auto, unfolding(crate::specs::Windows::io_of))]
+fn io(m: &[u8; 256], port: u16) -> Option<Claim>
     ensures { claim_says result ≡ io_of m.now port }
 {
     let address = port as u64;
     if holds(dword(m, map::IOBAR) as u64, IO, address) {
-        return Claim::Io(offset(IO, address));
+        return Some(Claim::Io(offset(IO, address)));
     }
-    Claim::None
+    None
 }
 
 // While a function reset is under way nothing is claimed, and in power state 11.
@@ -120,29 +127,29 @@ fn off(m: &[u8; 256], busy: u8) -> bool
 // ---- the entries
 
 // The window that claims a memory address. Memory needs PCICMD2 bit 1.
-pub fn claim_memory(s: State, address: u64) -> Claim
+pub fn claim_memory(s: State, address: u64) -> Option<Claim>
     ensures { claim_says result ≡ memory_claim_of s address }
 {
     let t = s;
     if t.bytes[map::PCICMD2] / 2 % 2 == 0 {
-        return Claim::None;
+        return None;
     }
     if off(&t.bytes, t.flags.busy) {
-        return Claim::None;
+        return None;
     }
     memory(&t.bytes, address)
 }
 
 // The window that claims a port. I/O needs PCICMD2 bit 0.
-pub fn claim_port(s: State, port: u16) -> Claim
+pub fn claim_port(s: State, port: u16) -> Option<Claim>
     ensures { claim_says result ≡ io_claim_of s port }
 {
     let t = s;
     if t.bytes[map::PCICMD2] % 2 == 0 {
-        return Claim::None;
+        return None;
     }
     if off(&t.bytes, t.flags.busy) {
-        return Claim::None;
+        return None;
     }
     io(&t.bytes, port)
 }

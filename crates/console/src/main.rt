@@ -1,9 +1,14 @@
 // The console: standard input in blocks, the answers of each block in one write.
 #![tactic(auto)]
 
+use console_lines::{ANSWERS, BUFFER, Console};
+use text_pieces::Text;
+
 fn main(rt: HostRuntime) {
-    let mut buf = console_session::in_buffer();
-    let mut out = console_session::out_buffer();
-    let s = twin::fresh();
-    console_session::listen(&rt, s, true, &mut buf, &mut out);
+    let mut console = Console {
+        state: twin::fresh(),
+    };
+    let mut buf = [0; BUFFER];
+    let mut out = Text::<ANSWERS>::new();
+    let _ = session_loop::session(&rt, &mut console, &mut buf, &mut out);
 }

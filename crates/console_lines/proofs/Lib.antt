@@ -1,1 +1,1 @@
-pub mod Console
+pub mod Blocks

@@ -1,9 +1,8 @@
 -- The console: what a line says and does, by the rules. Its rows are those of the player and one for each other entry.
-use Rattle.std.specs.Prelude.{List, ℕ}
+use Rattle.std.specs.Prelude.{List, Option, None, ℕ}
 use Rattle.rules.specs.declared.State.{State}
 use Rattle.rules.specs.Fresh.{fresh_of}
 use Rattle.asked.specs.declared.Asked.{Asked}
-use Rattle.asked.specs.declared.Asked.TheVariants as Q
 use Rattle.asked.specs.Asked.{response_of}
 use Rattle.line_forms.specs.Read.{read_by}
 use Rattle.line_table.specs.Table.{rows}
@@ -11,8 +10,8 @@ use Rattle.text_shown.specs.Answers.{said_text}
 use Rattle.session.specs.Session.{all_lines, answers}
 
 -- what a line asks
-abbrev pub asks : List ℕ → Asked
-asks l = read_by Q.Nothing rows l
+abbrev pub asks : List ℕ → Option Asked
+asks l = read_by None rows l
 
 abbrev pub line_next : State → List ℕ → State
 line_next s l = (response_of (asks l) s).state

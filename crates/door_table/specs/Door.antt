@@ -1,5 +1,5 @@
 -- The door's numbers as a table: a number, which arguments it takes, and what it asks.
-use Rattle.std.specs.Prelude.{Bool, true, List, [], ◌∷◌, ℕ, ◌+◌, ◌*◌, ◌^◌}
+use Rattle.std.specs.Prelude.{Option, None, Some, Bool, true, List, [], ◌∷◌, ℕ, ◌+◌, ◌*◌, ◌^◌}
 use Rattle.bits.specs.Choice.{when◌then◌else◌, ◌and◌, ◌is◌, ◌≤?◌}
 use Rattle.rules.specs.declared.Event.TheVariants as E
 use Rattle.rules.specs.declared.WindowEvent.{WindowEvent}
@@ -57,8 +57,8 @@ doors =
     ∷ []
 
 -- what the operation of that number asks; an argument that it does not take, or a number of no door, asks nothing
-abbrev pub asked_at : List Door → ℕ → ℕ → ℕ → ℕ → Asked
-asked_at [] op a b c = Q.Nothing
+abbrev pub asked_at : List Door → ℕ → ℕ → ℕ → ℕ → Option Asked
+asked_at [] op a b c = None
 asked_at (d ∷ ds) op a b c =
-    when op is d.number then (when d.takes a b c then d.asks a b c else Q.Nothing)
+    when op is d.number then (when d.takes a b c then Some (d.asks a b c) else None)
     else asked_at ds op a b c

@@ -13,7 +13,7 @@ ghost use Rattle.door_told.specs.Heard.{heard, accepted, refused, heard_of, part
 
 use answer::{Answer, Refusal};
 use asked::Shown;
-use probe::Probed;
+use probe::Range;
 use rules::Claim;
 use walk::Found;
 
@@ -47,39 +47,43 @@ fn no(n: Refusal, low: u32) -> Parts
 
 // ---- what is told of an answer, and of each look
 
+#[tactic(auto, unfolding(crate::specs::Heard::heard_of))]
 fn answer_told(a: Answer) -> Parts
     ensures { parts result ≡ heard_of (answer (says a)) }
 {
     match a {
-        Answer::Done => ok(0, 0),
-        Answer::Value(v) => ok(0, v),
-        Answer::No(n) => no(n, 0),
+        Ok(None) => ok(0, 0),
+        Ok(Some(v)) => ok(0, v),
+        Err(n) => no(n, 0),
     }
 }
 
-fn claim_told(a: Claim) -> Parts
+#[tactic(auto, unfolding(crate::specs::Heard::heard_of))]
+fn claim_told(a: Option<Claim>) -> Parts
     ensures { parts result ≡ heard_of (claim (claim_says a)) }
 {
     match a {
-        Claim::Translation(o) => ok(1, o),
-        Claim::Aperture(o) => ok(2, o),
-        Claim::Io(o) => ok(3, o),
-        Claim::None => ok(0, 0),
+        Some(Claim::Translation(o)) => ok(1, o),
+        Some(Claim::Aperture(o)) => ok(2, o),
+        Some(Claim::Io(o)) => ok(3, o),
+        None => ok(0, 0),
     }
 }
 
-fn probe_told(a: Probed) -> Parts
+#[tactic(auto, unfolding(crate::specs::Heard::heard_of))]
+fn probe_told(a: Option<Range>) -> Parts
     ensures { parts result ≡ heard_of (range (probe_says a)) }
 {
     match a {
-        Probed::Io(e) => ok(1, e),
-        Probed::Memory32(e) => ok(2, e),
-        Probed::Memory64(e) => ok(3, e),
-        Probed::NoRange => no(Refusal::NoRange, 0),
+        Some(Range::Io(e)) => ok(1, e),
+        Some(Range::Memory32(e)) => ok(2, e),
+        Some(Range::Memory64(e)) => ok(3, e),
+        None => no(Refusal::NoRange, 0),
     }
 }
 
 // The count stands beside a refusal too, the one exception to zero.
+#[tactic(auto, unfolding(crate::specs::Heard::heard_of))]
 fn walk_told(f: Found, count: u32) -> Parts
     ensures { parts result ≡ heard_of (item (says_of f count)) }
 {

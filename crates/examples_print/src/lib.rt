@@ -1,94 +1,46 @@
-// Text, upper-case hex as in the paper, accesses and answers, on standard output.
+// Answers as the paper writes them, in upper-case hex, behind what was asked.
 #![tactic(auto)]
 
-use answer::Answer;
-use std::io;
+use answer::{Answer, Refusal};
+use std::fmt;
 
-// ---- writing
+// What is refused, by its number.
+#[derive(Clone, Copy)]
+pub struct Refused(pub Refusal);
 
-pub fn text<R: Print>(rt: &R, s: &[u8]) -> io::Result<()> {
-    rt.write_all(s)
-}
-
-pub fn decimal<R: Print>(rt: &R, n: u32) -> io::Result<()> {
-    print!(rt; "{n}")
-}
-
-pub fn refused<R: Print>(rt: &R, number: u32) -> io::Result<()> {
-    text(rt, b": refusal ")?;
-    decimal(rt, number)
-}
-
-// ---- the low digits of n
-
-pub fn hex1<R: Print>(rt: &R, n: u32) -> io::Result<()> {
-    print!(rt; "{:X}", n % 16)
-}
-
-pub fn hex2<R: Print>(rt: &R, n: u32) -> io::Result<()> {
-    print!(rt; "{:02X}", n % 256)
-}
-
-pub fn hex3<R: Print>(rt: &R, n: u32) -> io::Result<()> {
-    print!(rt; "{:03X}", n % 4096)
-}
-
-pub fn hex4<R: Print>(rt: &R, n: u32) -> io::Result<()> {
-    print!(rt; "{:04X}", n % 65536)
-}
-
-pub fn hex8<R: Print>(rt: &R, n: u32) -> io::Result<()> {
-    print!(rt; "{n:08X}")
-}
-
-// ---- an access
-
-pub fn place<R: Print>(rt: &R, offset: u32, lanes: u32) -> io::Result<()> {
-    hex2(rt, offset)?;
-    text(rt, b" ")?;
-    hex1(rt, lanes)
-}
-
-pub fn write_line<R: Print>(rt: &R, offset: u32, lanes: u32, value: u32) -> io::Result<()> {
-    text(rt, b"W ")?;
-    place(rt, offset, lanes)?;
-    text(rt, b" ")?;
-    hex8(rt, value)
-}
-
-// ---- its answer
-
-fn word<R: Print>(rt: &R, n: u32) -> io::Result<()> {
-    text(rt, b": ")?;
-    hex4(rt, n)
-}
-
-fn dword<R: Print>(rt: &R, n: u32) -> io::Result<()> {
-    text(rt, b": ")?;
-    hex8(rt, n)
-}
-
-// A write's: nothing where it is accepted.
-pub fn write_answer<R: Print>(rt: &R, a: Answer) -> io::Result<()> {
-    match a {
-        Answer::Done => Ok(()),
-        Answer::Value(_) => Ok(()),
-        Answer::No(r) => refused(rt, answer::number(r)),
+impl fmt::Display for Refused {
+    fn fmt<W: fmt::Write>(&self, f: &mut fmt::Formatter<W>) -> fmt::Result {
+        write!(f, ": refusal {}", answer::number(self.0))
     }
 }
 
-pub fn read_answer<R: Print>(rt: &R, a: Answer) -> io::Result<()> {
-    match a {
-        Answer::Done => Ok(()),
-        Answer::Value(v) => dword(rt, v),
-        Answer::No(r) => refused(rt, answer::number(r)),
+// A write's answer: nothing where it is accepted.
+#[derive(Clone, Copy)]
+pub struct Written(pub Answer);
+
+impl fmt::Display for Written {
+    fn fmt<W: fmt::Write>(&self, f: &mut fmt::Formatter<W>) -> fmt::Result {
+        match self.0 {
+            Ok(_) => Ok(()),
+            Err(r) => write!(f, "{}", Refused(r)),
+        }
     }
 }
 
-pub fn port_read_answer<R: Print>(rt: &R, a: Answer) -> io::Result<()> {
-    match a {
-        Answer::Done => Ok(()),
-        Answer::Value(v) => word(rt, v),
-        Answer::No(r) => refused(rt, answer::number(r)),
+// A read's, in so many digits.
+#[derive(Clone, Copy)]
+pub struct Read {
+    pub answer: Answer,
+    pub digits: usize,
+}
+
+impl fmt::Display for Read {
+    fn fmt<W: fmt::Write>(&self, f: &mut fmt::Formatter<W>) -> fmt::Result {
+        let digits = self.digits;
+        match self.answer {
+            Ok(None) => Ok(()),
+            Ok(Some(v)) => write!(f, ": {v:0digits$X}"),
+            Err(r) => write!(f, "{}", Refused(r)),
+        }
     }
 }

@@ -16,20 +16,15 @@ fn reset(m: &mut [u8; 256])
     plain::reset(m, &masks, &defaults);
 }
 
-// The host's end signal; the flags afterwards are handed back. Where no function reset is under way nothing changes.
-pub fn end(m: &mut [u8; 256], c: Flags) -> Flags
-    ensures m_after { m.new ≡ end_bytes c m.old }
-    ensures value { result ≡ end_flags c }
+// The host's end signal. Where no function reset is under way nothing changes.
+#[tactic(auto, unfolding(crate::specs::Bytes::end_bytes, crate::specs::Bytes::end_flags))]
+pub fn end(m: &mut [u8; 256], c: &mut Flags)
+    ensures m_after { m.new ≡ end_bytes c.old m.old }
+    ensures c_after { c.new ≡ end_flags c.old }
 {
-    if c.busy == 0 {
-        return c;
-    }
-    reset(m);
-    Flags {
-        svid2: c.svid2,
-        sid2: c.sid2,
-        swsci15: c.swsci15,
-        busy: 0,
+    if c.busy != 0 {
+        reset(m);
+        c.busy = 0;
     }
 }
 

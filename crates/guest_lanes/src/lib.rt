@@ -12,6 +12,7 @@ pub const APERTURE: usize = map::GMADR + 3;
 // ---- which guest bits a write leaves
 
 // The bits of byte `APERTURE` that a size code takes.
+#[tactic(auto, using(bits::proofs::Tests::tests, crate::proofs::Masks::taken_is))]
 pub fn taken(code: u8) -> u8
     ensures { result ≡ taken_mask code }
 {
@@ -24,6 +25,7 @@ pub fn taken(code: u8) -> u8
     0
 }
 
+#[tactic(auto, using(bits::proofs::Tests::tests), unfolding(crate::specs::Lane::if_closed))]
 fn if_closed(flag: u8, mask: u8) -> u8
     ensures { result ≡ if_closed flag mask }
 {
@@ -31,6 +33,7 @@ fn if_closed(flag: u8, mask: u8) -> u8
 }
 
 // The guest bits of byte `i` that a write of `w` leaves as they are, by the rules of write-once fields, size code and power state.
+#[tactic(auto, using(bits::proofs::Tests::tests, crate::proofs::Masks::helds))]
 fn held(c: Flags, code: u8, i: usize, w: u8) -> u8
     ensures { result ≡ held_of c code w i }
 {
@@ -65,6 +68,7 @@ fn held(c: Flags, code: u8, i: usize, w: u8) -> u8
 }
 
 // The guest bits of byte `i` that take what is written: `full` is its guest mask.
+#[tactic(auto, unfolding(crate::specs::Lane::reach_of))]
 pub fn reach(c: Flags, code: u8, i: usize, full: u8, w: u8) -> u8
     ensures { result ≡ reach_of c code i full w }
 {

@@ -6,12 +6,12 @@ ghost use Rattle.rules.specs.Access.{up};
 ghost use Rattle.answer.specs.Said.{says};
 ghost use Rattle.guest_read.specs.Shown.{shown_byte, shown_dword, shown_bytes, read_dword, read_lanes, image_bytes};
 
-use access::Admitted;
 use answer::Answer;
 
 // ---- as the bytes are shown while no function reset is under way
 
 // CAPPOINT is computed from CAPL.
+#[tactic(auto, using(bits::proofs::Tests::tests), unfolding(crate::specs::Shown::shown_byte))]
 fn shown(m: &[u8; 256], i: usize) -> u8
     requires { i < 256 }
     ensures { result ≡ shown_byte m.now i }
@@ -26,6 +26,7 @@ fn shown(m: &[u8; 256], i: usize) -> u8
     m[i]
 }
 
+#[tactic(auto, unfolding(crate::specs::Shown::shown_dword))]
 fn shown_dword(m: &[u8; 256], o: usize) -> u32
     requires { o + 3 < 256 }
     ensures { result ≡ shown_dword m.now o }
@@ -38,6 +39,7 @@ fn shown_dword(m: &[u8; 256], o: usize) -> u32
     )
 }
 
+#[tactic(auto, unfolding(crate::specs::Shown::shown_bytes))]
 fn shown_image(m: &[u8; 256]) -> [u8; 256]
     ensures { result ≡ shown_bytes m.now }
 {
@@ -46,8 +48,9 @@ fn shown_image(m: &[u8; 256]) -> [u8; 256]
     t
 }
 
-// ---- as a guest reads: ones while busy
+// ---- as a guest reads: ones while busy; of an access or of a port's dword, so by its place
 
+#[tactic(auto, using(bits::proofs::Tests::tests), unfolding(crate::specs::Shown::read_dword))]
 fn dword_at(m: &[u8; 256], busy: u8, o: usize) -> u32
     requires { o + 3 < 256 }
     ensures { result ≡ read_dword (up busy) m.now o }
@@ -67,16 +70,16 @@ pub fn dword(m: &[u8; 256], busy: u8, d: u8) -> u32
 }
 
 // The enabled bytes of the dword at `offset`, FF in the other lanes.
+#[tactic(auto, using(crate::proofs::Entry::read_refused, crate::proofs::Entry::read_made))]
 pub fn read(m: &[u8; 256], busy: u8, offset: u32, lanes: u32) -> Answer
     ensures { says result ≡ read_lanes (up busy) m.now offset lanes }
 {
-    match access::direct(offset, lanes) {
-        Admitted::No(r) => Answer::No(r),
-        Admitted::Yes => Answer::Value(plain::driven(lanes, dword_at(m, busy, offset as usize))),
-    }
+    let a = access::direct(offset, lanes)?;
+    Ok(Some(plain::driven(a.lanes, dword_at(m, busy, a.offset))))
 }
 
 // The 256 bytes as a guest reads them.
+#[tactic(auto, using(bits::proofs::Tests::tests), unfolding(crate::specs::Shown::image_bytes))]
 pub fn image(m: &[u8; 256], busy: u8) -> [u8; 256]
     ensures { result ≡ image_bytes (up busy) m.now }
 {

@@ -2,17 +2,15 @@
 use Rattle.std.specs.Prelude.{List, Bool, true, false, ℕ, ◌+◌, ◌/◌, ◌%◌, get_or, set}
 use Rattle.bits.specs.Bits.{blend_k}
 use Rattle.bits.specs.Choice.{when◌then◌else◌, ◌is◌}
-use Rattle.answer.specs.Refusals.{fine, Reply, ok, no, OFFSET, LANES}
+use Rattle.answer.specs.Refusals.{fine, Reply, no, OFFSET}
 use Rattle.map.specs.Registers.{GMADR, MSAC}
 use Rattle.rules.specs.declared.Flags.{Flags}
 use Rattle.rules.specs.Access.{up}
 use Rattle.access.specs.Access.{enabled, bad_offset, admit}
 use Rattle.rules.specs.Device.{size_of}
 use Rattle.rules.specs.Guest.{flags_after}
-use Rattle.answer.specs.Said.{says}
 use Rattle.plain.specs.Bytes.{stored_of}
 use Rattle.guest_lanes.specs.Lane.{taken_mask, reach_of}
-use Rattle.guest_write.specs.declared.Wrote.{Wrote}
 
 -- ---- the store
 
@@ -56,9 +54,6 @@ pub record Lent : Type 0 where
 
 abbrev pub lent : Reply → List ℕ → Flags → Lent
 lent r m c = record { reply = r; bytes = m; flags = c }
-
-abbrev pub wrote : Wrote → List ℕ → Lent
-wrote r m = lent (says r.answer) m r.flags
 
 -- dropped while busy
 abbrev pub taken_bytes : List ℕ → Flags → List ℕ → ℕ → ℕ → ℕ → Lent

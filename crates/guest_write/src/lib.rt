@@ -3,8 +3,9 @@
 
 ghost use Rattle.std.specs.Prelude.{◌≡◌, ◌+◌, ◌%◌, ◌<◌};
 ghost use Rattle.answer.specs.Refusals.{fine};
+ghost use Rattle.answer.specs.Said.{says};
 ghost use Rattle.rules.specs.Guest.{flags_after};
-ghost use Rattle.guest_write.specs.Bytes.{stored_bytes, cleared_bytes, step_bytes, raised_of, lent, taken_bytes, write_lanes, wrote};
+ghost use Rattle.guest_write.specs.Bytes.{stored_bytes, cleared_bytes, step_bytes, raised_of, lent, taken_bytes, write_lanes};
 
 use access::Admitted;
 use answer::Answer;
@@ -13,24 +14,19 @@ use rules::Flags;
 // The dword that MSAC stands in.
 const MSAC_DWORD: usize = map::MSAC / 4 * 4;
 
-#[derive(Clone, Copy)]
-pub struct Wrote {
-    pub answer: Answer,
-    pub flags: Flags,
-}
-
 // ---- the store
 
-fn store(m: &mut [u8; 256], guest: &[u8; 256], c: Flags, o: usize, lanes: u32, value: u32)
-    requires { o + 3 < 256 }
-    ensures { m.new ≡ stored_bytes guest.now c m.old o lanes value }
+fn store(m: &mut [u8; 256], guest: &[u8; 256], c: Flags, a: Admitted, value: u32)
+    ensures { m.new ≡ stored_bytes guest.now c m.old a.offset a.lanes value }
 {
+    let o = a.offset;
     let code = m[map::MSAC] / 2 % 4;
-    let k0 = guest_lanes::reach(c, code, o, guest[o], (value % 256) as u8);
-    let k1 = guest_lanes::reach(c, code, o + 1, guest[o + 1], (value / 256 % 256) as u8);
-    let k2 = guest_lanes::reach(c, code, o + 2, guest[o + 2], (value / 65536 % 256) as u8);
-    let k3 = guest_lanes::reach(c, code, o + 3, guest[o + 3], (value / 16777216 % 256) as u8);
-    plain::store(m, o, lanes, value, k0, k1, k2, k3);
+    let w = value.to_le_bytes();
+    let k0 = guest_lanes::reach(c, code, o, guest[o], w[0]);
+    let k1 = guest_lanes::reach(c, code, o + 1, guest[o + 1], w[1]);
+    let k2 = guest_lanes::reach(c, code, o + 2, guest[o + 2], w[2]);
+    let k3 = guest_lanes::reach(c, code, o + 3, guest[o + 3], w[3]);
+    plain::store(m, o, a.lanes, value, k0, k1, k2, k3);
 }
 
 // ---- what a write to MSAC does besides
@@ -43,11 +39,12 @@ fn clear(m: &mut [u8; 256])
     m[guest_lanes::APERTURE] = bits::blend(guest_lanes::taken(code), m[guest_lanes::APERTURE], 0);
 }
 
-fn step(m: &mut [u8; 256], guest: &[u8; 256], c: Flags, o: usize, lanes: u32, value: u32)
-    requires { (o + 3 < 256) × (o % 4 ≡ 0) }
-    ensures { m.new ≡ step_bytes guest.now c m.old o lanes value }
+fn step(m: &mut [u8; 256], guest: &[u8; 256], c: Flags, a: Admitted, value: u32)
+    ensures { m.new ≡ step_bytes guest.now c m.old a.offset a.lanes value }
 {
-    store(m, guest, c, o, lanes, value);
+    let o = a.offset;
+    let lanes = a.lanes;
+    store(m, guest, c, a, value);
     if o == MSAC_DWORD {
         if lanes / 4 % 2 == 1 {
             clear(m);
@@ -73,10 +70,11 @@ fn raise(was: u8, o: usize, at: usize, hit: u32) -> u8
 }
 
 // A write-once field is closed by the lanes of its bytes; a function reset is started by bit 0 of AFCTL.
-fn raises(c: Flags, o: usize, lanes: u32, value: u32) -> Flags
-    requires { (o + 3 < 256) × (o % 4 ≡ 0) × (lanes < 16) }
-    ensures { result ≡ flags_after o lanes value c }
+fn raises(c: Flags, a: Admitted, value: u32) -> Flags
+    ensures { result ≡ flags_after a.offset a.lanes value c }
 {
+    let o = a.offset;
+    let lanes = a.lanes;
     Flags {
         svid2: raise(c.svid2, o, map::SVID2, lanes % 4),
         sid2: raise(c.sid2, o, map::SVID2, lanes / 4),
@@ -87,47 +85,30 @@ fn raises(c: Flags, o: usize, lanes: u32, value: u32) -> Flags
 
 // ---- the entry
 
-// A write that is accepted, and the flags afterwards: while a function reset is under way it is dropped.
-pub fn taken(
-    m: &mut [u8; 256],
-    guest: &[u8; 256],
-    c: Flags,
-    o: usize,
-    lanes: u32,
-    value: u32,
-) -> Flags
-    requires { (o + 3 < 256) × (o % 4 ≡ 0) × (lanes < 16) }
-    ensures { lent fine m.new result ≡ taken_bytes guest.now c m.old o lanes value }
+// A write that is accepted: while a function reset is under way it is dropped.
+pub fn taken(m: &mut [u8; 256], guest: &[u8; 256], c: &mut Flags, a: Admitted, value: u32)
+    ensures { lent fine m.new c.new ≡ taken_bytes guest.now c.old m.old a.offset a.lanes value }
 {
     if c.busy != 0 {
-        return c;
+        return;
     }
-    step(m, guest, c, o, lanes, value);
-    raises(c, o, lanes, value)
+    step(m, guest, *c, a, value);
+    *c = raises(*c, a, value);
 }
 
 // A guest write of the enabled bytes of `value` to the dword at `offset`; while a function reset is under way it is dropped.
+#[tactic(auto, using(crate::proofs::Entry::write_refused, crate::proofs::Entry::write_made))]
 pub fn write(
     m: &mut [u8; 256],
     guest: &[u8; 256],
-    c: Flags,
+    c: &mut Flags,
     offset: u32,
     lanes: u32,
     value: u32,
-) -> Wrote
-    ensures { wrote result m.new ≡ write_lanes guest.now c m.old offset lanes value }
+) -> Answer
+    ensures { lent (says result) m.new c.new ≡ write_lanes guest.now c.old m.old offset lanes value }
 {
-    match access::direct(offset, lanes) {
-        Admitted::No(r) => Wrote {
-            answer: Answer::No(r),
-            flags: c,
-        },
-        Admitted::Yes => {
-            let after = taken(m, guest, c, offset as usize, lanes, value);
-            Wrote {
-                answer: Answer::Done,
-                flags: after,
-            }
-        }
-    }
+    let a = access::direct(offset, lanes)?;
+    taken(m, guest, c, a, value);
+    Ok(None)
 }

@@ -2,9 +2,8 @@
 use Rattle.std.specs.Prelude.{List, not, ℕ, get_or, set}
 use Rattle.bits.specs.Bits.{blend_k}
 use Rattle.bits.specs.Choice.{when◌then◌else◌, ◌is◌, ◌<?◌}
-use Rattle.answer.specs.Refusals.{fine, Reply, ok, no, OFFSET, NOT_HOST}
-use Rattle.answer.specs.Said.{says}
-use Rattle.answer.specs.declared.Answer.{Answer}
+use Rattle.answer.specs.Refusals.{fine, Reply, no, OFFSET, NOT_HOST}
+use Rattle.answer.specs.Said.{Answer, says}
 
 -- the mask's bits outside the host mask
 abbrev pub outside : List ℕ → ℕ → ℕ → ℕ

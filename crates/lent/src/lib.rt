@@ -1,7 +1,7 @@
 // The state lent as one record, and updated where it lies: what a bench in C, or in any language that calls C, links.
 #![tactic(auto)]
 
-ghost use Rattle.std.specs.Prelude.{ℕ, ◌≡◌, ◌<◌, slice_index};
+ghost use Rattle.std.specs.Prelude.{◌≡◌};
 ghost use Rattle.rules.specs.Guest.{write_of};
 ghost use Rattle.rules.specs.Read.{read_of};
 ghost use Rattle.rules.specs.Fresh.{fresh_of};
@@ -15,11 +15,6 @@ ghost use Rattle.door_step.specs.Door.{door_of};
 
 use rules::State;
 
-// What is lent are bytes: nothing is done, and the caller has it as a fact.
-fn bytes_fit(m: &[u8])
-    ensures { (i : ℕ) → slice_index m.now i < 256 }
-{}
-
 // A platform reset; also what makes a record the fresh state.
 #[unsafe(no_mangle)]
 pub extern "C" fn twin_platform_reset(s: &mut State)
@@ -29,16 +24,12 @@ pub extern "C" fn twin_platform_reset(s: &mut State)
 }
 
 // A guest write; it may start a function reset, and while one is under way it is dropped. The result is the refusal's number, 0 where it is accepted.
-// The record's bytes are lent on to the leaf, so nothing is copied.
+// The record is lent on, so nothing is copied.
 #[unsafe(no_mangle)]
 pub extern "C" fn twin_write(s: &mut State, offset: u32, lanes: u32, value: u32) -> u32
     ensures { leaves result s.new ≡ numbered (write_of s.old offset lanes value) }
 {
-    bytes_fit(&s.bytes);
-    let c = s.flags;
-    let w = door_write::put(&mut s.bytes, c, offset, lanes, value);
-    s.flags = w.flags;
-    w.number
+    door_write::number(door_write::put(s, offset, lanes, value))
 }
 
 // The same above the by-value step: the record is copied in, and its state out.
@@ -56,25 +47,16 @@ pub extern "C" fn twin_write_by_value(s: &mut State, offset: u32, lanes: u32, va
 pub extern "C" fn twin_read(s: &State, offset: u32, lanes: u32) -> u64
     ensures { heard result ≡ heard_of (answer (read_of s.now offset lanes)) }
 {
-    bytes_fit(&s.bytes);
-    let c = s.flags;
-    door_told::read(&s.bytes, c.busy, offset, lanes)
+    door_write::bytes_fit(&s.bytes);
+    door_told::read(&s.bytes, s.flags.busy, offset, lanes)
 }
 
-// The operation of number `op`. The record's bytes are lent on, with what stands beside them by value.
+// The operation of number `op`.
 #[unsafe(no_mangle)]
 pub extern "C" fn twin_do(s: &mut State, op: u32, a: u32, b: u32, c: u32) -> u64
     ensures { outside (heard result) s.new ≡ door_of s.old op a b c }
 {
-    bytes_fit(&s.bytes);
-    let latch = s.latch;
-    let flags = s.flags;
-    let window = s.window;
-    let d = door_step::operate(&mut s.bytes, latch, flags, window, op, a, b, c);
-    s.latch = d.latch;
-    s.flags = d.flags;
-    s.window = d.window;
-    d.heard
+    door_step::operate(s, op, a, b, c)
 }
 
 // A size probe.

@@ -15,7 +15,7 @@ use Rattle.bits.specs.Places.{from}
 use Rattle.bits.proofs.Below.{below, other}
 use Rattle.bits.proofs.Places.{length_from}
 use Rattle.bits.proofs.Tests.{tests}
-use Rattle.line_forms.specs.declared.Hex.TheVariants.{Value, Bad}
+use Rattle.std.specs.Prelude.{None, Some}
 use Rattle.line_forms.specs.Ascii.{ascii}
 use Rattle.line_forms.specs.Hex.{up_of, hex_of}
 use Rattle.line_forms.specs.Read.{digit_of, at, hex_from}
@@ -109,7 +109,7 @@ reads_printed {bs} r =
 
 -- ---- how the rule of k digits stops and goes on
 
-pub stops : (k : ℕ) (l : List ℕ) (i v : ℕ) → 15 < digit_of (at l i) → hex_from (suc k) l i v ≡ Bad
+pub stops : (k : ℕ) (l : List ℕ) (i v : ℕ) → 15 < digit_of (at l i) → hex_from (suc k) l i v ≡ None
 unfolding hex_from
 stops k l i v h = search tests
 
@@ -127,17 +127,17 @@ of_fewer k j v h g = omega (arith, pow-le-pow_right {n = 16} (omega arith) {j = 
 
 -- ---- k digits from place i on are read as a number exactly when they are that number, printed
 
-pub not_bad : (v : ℕ) → Bad ≡ Value v → ⊥
+pub not_bad : (v : ℕ) → None ≡ Some v → ⊥
 not_bad v e = never cc
 
 -- digits are read
-digits_value : (k : ℕ) (l : List ℕ) (i v : ℕ) → Digits (from k (at l) i) → hex_from k l i v ≡ Value (read_from v (from k (at l) i))
+digits_value : (k : ℕ) (l : List ℕ) (i v : ℕ) → Digits (from k (at l) i) → hex_from k l i v ≡ Some (read_from v (from k (at l) i))
 unfolding hex_from
 digits_value zero l i v d = refl
 digits_value (suc k) l i v d = goes k l i v (omega arith) ∙ rw add-one (digits_value k l (suc i) (v * 16 + digit_of (at l i)) d.1)
 
 -- what is read is digits
-value_digits : (k : ℕ) (l : List ℕ) (i v n : ℕ) → hex_from k l i v ≡ Value n → Digits (from k (at l) i) × (n ≡ read_from v (from k (at l) i))
+value_digits : (k : ℕ) (l : List ℕ) (i v n : ℕ) → hex_from k l i v ≡ Some n → Digits (from k (at l) i) × (n ≡ read_from v (from k (at l) i))
 unfolding hex_from
 value_digits zero l i v n e = (tt, cc)
 value_digits (suc k) l i v n e =
@@ -148,8 +148,8 @@ value_digits (suc k) l i v n e =
           ((omega arith, r.0), r.1)
     ]
 
-pub number_exactly : (l : List ℕ) (i k v : ℕ) → (hex_from k l i 0 ≡ Value v) ↔ ((v < 16 ^ k) × (hex_of k v ≡ from k (at l) i))
+pub number_exactly : (l : List ℕ) (i k v : ℕ) → (hex_from k l i 0 ≡ Some v) ↔ ((v < 16 ^ k) × (hex_of k v ≡ from k (at l) i))
 number_exactly l i k v = (
   λ e. let r = value_digits k l i 0 v e in let p : Reads (from k (at l) i) v = record { digits = r.0; says = r.1 } in rw (length_from k (at l) i) at (reads_printed p),
-  λ r. let p : Reads (from k (at l) i) v = rw r.1 at (printed_reads k v r.0) in digits_value k l i 0 p.digits ∙ ap Value (sym p.says),
+  λ r. let p : Reads (from k (at l) i) v = rw r.1 at (printed_reads k v r.0) in digits_value k l i 0 p.digits ∙ ap Some (sym p.says),
 )

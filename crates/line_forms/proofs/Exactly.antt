@@ -8,10 +8,9 @@ use native.Mathlib.Omega.{arith}
 use borrow.Author.Tests.{ne_eqb, leb-true}
 use lib.ListN.{length}
 use Rattle.bits.proofs.Places.{first_say_all}
-use Rattle.line_forms.specs.declared.Numbers.{Numbers}
-use Rattle.line_forms.specs.declared.Numbers.TheVariants as N
-use Rattle.line_forms.specs.Table.{Form, Row?, none, some, find, field_form, form_of, length_of, all_rows, apart, within}
-use Rattle.line_forms.specs.Read.{at, columns, columns_of, numbers_of, asks_of, asked, read_by}
+use Rattle.std.specs.Prelude.{Option, None, Some}
+use Rattle.line_forms.specs.Table.{Form, find, field_form, form_of, length_of, all_rows, apart, within}
+use Rattle.line_forms.specs.Read.{at, columns, columns_of, numbers_of, numbers_by, asks_of, asked, read_by}
 use Rattle.line_forms.specs.Exactly.{In, here, there, Spelt, Every, Formed, OnlyForms, Exactly, NoneExactly, Alike, AsksOnly}
 use Rattle.line_forms.proofs.Rows.{is_in, named, each, found}
 use Rattle.line_forms.proofs.Forms.{numbers_say, numbers_read}
@@ -27,45 +26,45 @@ pub ◌&◌ : {P Q : Type 0} → P → Q → P × Q
 p & q = (p, q)
 
 module _ {A : Type 0} (nothing : A) where
-  asked_none : (n : Numbers) → asked nothing none n ≡ nothing
+  asked_none : (n : Option (ℕ × ℕ × ℕ)) → asked nothing None n ≡ nothing
   unfolding asks_of
-  asked_none N.Bad = refl
-  asked_none (N.Values x y z) = refl
+  asked_none None = refl
+  asked_none (Some n) = refl
 
   -- ---- what the code finds: no letter, no numbers, or numbers
 
-  pub read_empty : (t : List (Form A)) (l : List ℕ) → find 0 t ≡ none → length l ≡ 0 → nothing ≡ read_by nothing t l
+  pub read_empty : (t : List (Form A)) (l : List ℕ) → find 0 t ≡ None → length l ≡ 0 → nothing ≡ read_by nothing t l
   unfolding read_by
-  read_empty t l e n = rw (none_first l n, e) (sym (asked_none (numbers_of l (columns_of {A = A} none))))
+  read_empty t l e n = rw (none_first l n, e) (sym (asked_none (numbers_by l (columns_of {A = A} None))))
 
-  pub read_bad : (t : List (Form A)) (l : List ℕ) → numbers_of l (columns_of (find (at l 0) t)) ≡ N.Bad → nothing ≡ read_by nothing t l
+  pub read_bad : (t : List (Form A)) (l : List ℕ) → numbers_by l (columns_of (find (at l 0) t)) ≡ None → nothing ≡ read_by nothing t l
   unfolding read_by
   read_bad t l e = rw e
 
-  pub read_values : (t : List (Form A)) (l : List ℕ) (x y z : ℕ) → numbers_of l (columns_of (find (at l 0) t)) ≡ N.Values x y z → asks_of nothing (find (at l 0) t) x y z ≡ read_by nothing t l
+  pub read_values : (t : List (Form A)) (l : List ℕ) (x y z : ℕ) → numbers_by l (columns_of (find (at l 0) t)) ≡ Some (x, y, z) → asks_of nothing (find (at l 0) t) x y z ≡ read_by nothing t l
   unfolding read_by
   read_values t l x y z e = rw e
 
   -- ---- the form of a row is read as what it asks
 
   pub formed : (t : List (Form A)) → apart t ≡ true → Formed nothing t
-  unfolding read_by form_of columns_of asks_of
+  unfolding read_by form_of columns_of numbers_by asks_of
   formed t a r x y z i h = rw (found r t a i, numbers_read (r.name ∷ (field_form r.a x ++ (field_form r.b y ++ field_form r.c z))) r x y z h refl)
 
   -- ---- a line asks nothing, or is of the form of a row
 
   module _ (t : List (Form A)) (l : List ℕ) where
-    by_row : (r : Form A) (n : Numbers) → find (at l 0) t ≡ some r → numbers_of l (columns r) ≡ n → (asked nothing (some r) n ≡ nothing) ⊎ Spelt t l (asked nothing (some r) n)
+    by_row : (r : Form A) (n : Option (ℕ × ℕ × ℕ)) → find (at l 0) t ≡ Some r → numbers_of l (columns r) ≡ n → (asked nothing (Some r) n ≡ nothing) ⊎ Spelt t l (asked nothing (Some r) n)
     unfolding form_of asks_of
-    by_row r N.Bad f e = inl refl
-    by_row r (N.Values x y z) f e =
-        let d = numbers_say l r x y z e in
-        inr (record { row = r; x = x; y = y; z = z; found = is_in t (at l 0) r f; range = d.0; form = rw (named t (at l 0) r f) at d.1; asks = refl })
+    by_row r None f e = inl refl
+    by_row r (Some n) f e =
+        let d = numbers_say l r n.0 n.1 n.2 e in
+        inr (record { row = r; x = n.0; y = n.1; z = n.2; found = is_in t (at l 0) r f; range = d.0; form = rw (named t (at l 0) r f) at d.1; asks = refl })
 
-    by_letter : (o : Row? A) → find (at l 0) t ≡ o → (asked nothing o (numbers_of l (columns_of o)) ≡ nothing) ⊎ Spelt t l (asked nothing o (numbers_of l (columns_of o)))
-    unfolding columns_of
-    by_letter none f = inl (asked_none (numbers_of l (columns_of {A = A} none)))
-    by_letter (some r) f = by_row r (numbers_of l (columns r)) f refl
+    by_letter : (o : Option (Form A)) → find (at l 0) t ≡ o → (asked nothing o (numbers_by l (columns_of o)) ≡ nothing) ⊎ Spelt t l (asked nothing o (numbers_by l (columns_of o)))
+    unfolding columns_of numbers_by
+    by_letter None f = inl (asked_none (numbers_by l (columns_of {A = A} None)))
+    by_letter (Some r) f = by_row r (numbers_of l (columns r)) f refl
 
   pub only_forms : (t : List (Form A)) → OnlyForms nothing t
   unfolding read_by
@@ -102,10 +101,10 @@ module _ {A : Type 0} (nothing : A) where
 
   -- ---- too long
 
-  long_row : (n : ℕ) (t : List (Form A)) (l : List ℕ) (o : Row? A) → find (at l 0) t ≡ o → all_rows (within n) t ≡ true → n < length l → asked nothing o (numbers_of l (columns_of o)) ≡ nothing
-  unfolding columns_of numbers_of
-  long_row n t l none f a h = asked_none (numbers_of l (columns_of {A = A} none))
-  long_row n t l (some r) f a h =
+  long_row : (n : ℕ) (t : List (Form A)) (l : List ℕ) (o : Option (Form A)) → find (at l 0) t ≡ o → all_rows (within n) t ≡ true → n < length l → asked nothing o (numbers_by l (columns_of o)) ≡ nothing
+  unfolding columns_of numbers_of numbers_by
+  long_row n t l None f a h = asked_none (numbers_by l (columns_of {A = A} None))
+  long_row n t l (Some r) f a h =
       let m = leb-true (length_of r) n (each (within n) r t a (is_in t (at l 0) r f)) in
       rw (ne_eqb (length l) (length_of r) (λ e. omega arith))
 

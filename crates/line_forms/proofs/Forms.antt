@@ -11,14 +11,11 @@ use lib.ListN.{length, length-append}
 use Rattle.bits.specs.Choice.{pick}
 use Rattle.bits.specs.Places.{from}
 use Rattle.bits.proofs.Places.{length_from, as_from}
-use Rattle.line_forms.specs.declared.Hex.{Hex}
-use Rattle.line_forms.specs.declared.Hex.TheVariants as H
-use Rattle.line_forms.specs.declared.Numbers.{Numbers}
-use Rattle.line_forms.specs.declared.Numbers.TheVariants as N
+use Rattle.std.specs.Prelude.{Option, None, Some}
 use Rattle.line_forms.specs.Ascii.{ascii, letter}
 use Rattle.line_forms.specs.Hex.{up_of, hex_of}
-use Rattle.line_forms.specs.Table.{Form, form, Row?, none, some, field_form, form_of, InRange, wide}
-use Rattle.line_forms.specs.Read.{at, hex_from, field_of, joined, columns, columns_of, numbers_of, Fits}
+use Rattle.line_forms.specs.Table.{Form, form, field_form, form_of, InRange, wide}
+use Rattle.line_forms.specs.Read.{at, hex_from, field_of, joined, columns, columns_of, numbers_of, numbers_by, Fits}
 use Rattle.line_forms.proofs.Digits.{never, of_fewer, number_exactly, not_bad}
 use Rattle.line_forms.proofs.Rows.{picked_is}
 
@@ -29,26 +26,26 @@ as_printed r = (refl, refl, refl, refl)
 
 -- ---- one field
 
-pub field_none : (l : List ℕ) (i k : ℕ) → k ≡ 0 → field_of l i k ≡ H.Value 0
+pub field_none : (l : List ℕ) (i k : ℕ) → k ≡ 0 → field_of l i k ≡ Some 0
 unfolding field_of
 field_none l i k e = rw e
 
-pub field_some : (l : List ℕ) (i k : ℕ) → (k ≡ 0 → ⊥) → field_of l i k ≡ pick (eqb (at l i) (letter " ")) (hex_from k l (i + 1) 0) H.Bad
+pub field_some : (l : List ℕ) (i k : ℕ) → (k ≡ 0 → ⊥) → field_of l i k ≡ pick (eqb (at l i) (letter " ")) (hex_from k l (i + 1) 0) None
 unfolding field_of
 field_some l i zero n = absurd (n refl)
 field_some l i (suc k) n = refl
 
 -- what a field that is read says
-pub field_says : (l : List ℕ) (i k v : ℕ) → field_of l i k ≡ H.Value v → (v < 16 ^ k) × (field_form k v ≡ from (wide k) (at l) i)
+pub field_says : (l : List ℕ) (i k v : ℕ) → field_of l i k ≡ Some v → (v < 16 ^ k) × (field_form k v ≡ from (wide k) (at l) i)
 unfolding field_of
 field_says l i zero v = λ e. let z : 0 ≡ v = cc in (omega arith, refl)
 field_says l i (suc k) v =
-    picked_is (λ (h : Hex). h ≡ H.Value v → (v < 16 ^ suc k) × (field_form (suc k) v ≡ from (wide (suc k)) (at l) i)) (at l i) _ _ _
+    picked_is (λ (h : Option ℕ). h ≡ Some v → (v < 16 ^ suc k) × (field_form (suc k) v ≡ from (wide (suc k)) (at l) i)) (at l i) _ _ _
     (λ s e. let n = (number_exactly l (i + 1) (suc k) v).0 e in (n.0, rw (s, n.1, add-one)))
     (λ e. absurd (not_bad v e))
 
 -- a field as it is printed is read
-pub field_read : (l : List ℕ) (i k v : ℕ) → v < 16 ^ k → field_form k v ≡ from (wide k) (at l) i → field_of l i k ≡ H.Value v
+pub field_read : (l : List ℕ) (i k v : ℕ) → v < 16 ^ k → field_form k v ≡ from (wide k) (at l) i → field_of l i k ≡ Some v
 unfolding field_of
 field_read l i zero v h e = let z : v ≡ 0 = omega arith in rw z
 field_read l i (suc k) v h e =
@@ -57,16 +54,18 @@ field_read l i (suc k) v h e =
     rw (eq-eqb (at l i) (letter " ") s) ((number_exactly l (i + 1) (suc k) v).1 (h, rw add-one d))
 
 -- eight digits fit
-pub field_fits : (l : List ℕ) (i k v : ℕ) → k ≤ 8 → field_of l i k ≡ H.Value v → v < 2 ^ 32
+pub field_fits : (l : List ℕ) (i k v : ℕ) → k ≤ 8 → field_of l i k ≡ Some v → v < 2 ^ 32
 field_fits l i k v h e = of_fewer 8 k v h (field_says l i k v e).0
 
 -- ---- three fields
 
-from_joined : (h₁ h₂ h₃ : Hex) (x y z : ℕ) → joined h₁ h₂ h₃ ≡ N.Values x y z → (h₁ ≡ H.Value x) × (h₂ ≡ H.Value y) × (h₃ ≡ H.Value z)
-from_joined H.Bad h₂ h₃ x y z e = absurd (never cc)
-from_joined (H.Value u) H.Bad h₃ x y z e = absurd (never cc)
-from_joined (H.Value u) (H.Value v) H.Bad x y z e = absurd (never cc)
-from_joined (H.Value u) (H.Value v) (H.Value w) x y z e = (cc, cc, cc)
+from_joined : (h₁ h₂ h₃ : Option ℕ) (x y z : ℕ) → joined h₁ h₂ h₃ ≡ Some (x, y, z) → (h₁ ≡ Some x) × (h₂ ≡ Some y) × (h₃ ≡ Some z)
+from_joined None h₂ h₃ x y z e = absurd (never cc)
+from_joined (Some u) None h₃ x y z e = absurd (never cc)
+from_joined (Some u) (Some v) None x y z e = absurd (never cc)
+from_joined (Some u) (Some v) (Some w) x y z e =
+    let p : ◌≡◌ {A = ℕ × ℕ × ℕ} (u, v, w) (x, y, z) = cc in
+    (ap (λ (t : ℕ × ℕ × ℕ). Some t.0) p, ap (λ (t : ℕ × ℕ × ℕ). Some t.1) p, ap (λ (t : ℕ × ℕ × ℕ). Some t.2) p)
 
 from_split : (a n : ℕ) (f : ℕ → ℕ) (i : ℕ) → from (a + n) f i ≡ from a f i ++ from n f (a + i)
 from_split zero n f i = rw (zero-add n, zero-add i)
@@ -111,10 +110,10 @@ module _ {A : Type 0} (l : List ℕ) (r : Form A) (x y z : ℕ) where
   abbrev Body : List ℕ
   Body = field_form r.a x ++ (field_form r.b y ++ field_form r.c z)
 
-  pub numbers_say : numbers_of l (columns r) ≡ N.Values x y z → InRange r x y z × (l ≡ at l 0 ∷ Body)
+  pub numbers_say : numbers_of l (columns r) ≡ Some (x, y, z) → InRange r x y z × (l ≡ at l 0 ∷ Body)
   unfolding numbers_of
   numbers_say =
-      picked_is (λ (n : Numbers). n ≡ N.Values x y z → InRange r x y z × (l ≡ at l 0 ∷ Body)) (length l) _ _ _
+      picked_is (λ (n : Option (ℕ × ℕ × ℕ)). n ≡ Some (x, y, z) → InRange r x y z × (l ≡ at l 0 ∷ Body)) (length l) _ _ _
       (λ n e.
       let j = from_joined _ _ _ x y z e in
       let f = field_says l 1 r.a x j.0 in
@@ -123,7 +122,7 @@ module _ {A : Type 0} (l : List ℕ) (r : Form A) (x y z : ℕ) where
       ((f.0, g.0, h.0), rw (f.1, g.1, h.1) (placed l r.a r.b r.c n)))
       (λ e. absurd (never cc))
 
-  pub numbers_read : InRange r x y z → l ≡ r.name ∷ Body → numbers_of l (columns r) ≡ N.Values x y z
+  pub numbers_read : InRange r x y z → l ≡ r.name ∷ Body → numbers_of l (columns r) ≡ Some (x, y, z)
   unfolding numbers_of
   numbers_read h e =
       let m : length l ≡ suc (wide r.a + (wide r.b + wide r.c)) = ap length e ∙ simp (length-append, length_field) in
@@ -134,7 +133,7 @@ module _ {A : Type 0} (l : List ℕ) (r : Form A) (x y z : ℕ) where
       let q = parts (from (wide r.b) (at l) (1 + wide r.a)) (field_form r.b y) _ _ (length_from (wide r.b) (at l) (1 + wide r.a) ∙ sym (length_field r.b y)) p.1 in
       rw (eq-eqb _ _ n, field_read l 1 r.a x h.0 (sym p.0), field_read l (1 + wide r.a) r.b y h.1 (sym q.0), field_read l (1 + wide r.a + wide r.b) r.c z h.2 (sym q.1))
 
-pub numbers_fit : {A : Type 0} (o : Row? A) (l : List ℕ) (x y z : ℕ) → numbers_of l (columns_of o) ≡ N.Values x y z → Fits o x y z
-unfolding columns_of Fits
-numbers_fit none l x y z e = tt
-numbers_fit (some r) l x y z e = (numbers_say l r x y z e).0
+pub numbers_fit : {A : Type 0} (o : Option (Form A)) (l : List ℕ) (x y z : ℕ) → numbers_by l (columns_of o) ≡ Some (x, y, z) → Fits o x y z
+unfolding columns_of numbers_by Fits
+numbers_fit None l x y z e = tt
+numbers_fit (Some r) l x y z e = (numbers_say l r x y z e).0

@@ -2,14 +2,15 @@
 use mathlib.Core.Path.{◌≡◌, refl, ap, ◌∙◌}
 use mathlib.Core.Bool.{Bool, true, false, not}
 use mathlib.Core.List.{List, [], ◌∷◌}
-use mathlib.Core.Logic.{◌⊎◌, inl, inr, ⊎_elim}
+use mathlib.Core.Logic.{inr, ⊎_elim}
 use Prim.Native.Nat.{ℕ, zero, suc, ◌+◌, ◌≤◌}
 use native.Mathlib.Omega.{arith}
 use borrow.Author.Tests.{leb-true, eqb-true, eq-eqb, not-true}
 use lib.Dec.{leb, eqb}
 use Rattle.bits.specs.Choice.{both, pick}
+use Rattle.std.specs.Prelude.{Option, None, Some}
 use Rattle.line_forms.specs.declared.Row.{Row}
-use Rattle.line_forms.specs.Table.{Form, Row?, none, some, find, wide, all_rows, unnamed, apart, fits}
+use Rattle.line_forms.specs.Table.{Form, find, wide, all_rows, unnamed, apart, fits}
 use Rattle.line_forms.specs.Read.{columns, columns_of, Bounded}
 use Rattle.line_forms.specs.Exactly.{In, here, there}
 use Rattle.line_forms.proofs.Digits.{never}
@@ -32,24 +33,24 @@ both_right true b e = e
 both_right false b e = absurd (never cc)
 
 module _ {A : Type 0} where
-  not_some : (r : Form A) → none ≡ some r → ⊥
+  not_some : (r : Form A) → None ≡ Some r → ⊥
   not_some r e = never cc
 
   -- ---- the row of a letter
 
   -- is one of the table
-  pub is_in : (t : List (Form A)) (f : ℕ) (r : Form A) → find f t ≡ some r → In r t
+  pub is_in : (t : List (Form A)) (f : ℕ) (r : Form A) → find f t ≡ Some r → In r t
   is_in [] f r = λ e. absurd (not_some r e)
   is_in (q ∷ t) f r =
-      picked (λ (x : Row? A). x ≡ some r → In r (q ∷ t)) (eqb f q.name) (some q) (find f t)
+      picked (λ (x : Option (Form A)). x ≡ Some r → In r (q ∷ t)) (eqb f q.name) (Some q) (find f t)
       (λ _ e. let s : q ≡ r = cc in rw s here)
       (λ _ e. there (is_in t f r e))
 
   -- has that letter
-  pub named : (t : List (Form A)) (f : ℕ) (r : Form A) → find f t ≡ some r → f ≡ r.name
+  pub named : (t : List (Form A)) (f : ℕ) (r : Form A) → find f t ≡ Some r → f ≡ r.name
   named [] f r = λ e. absurd (not_some r e)
   named (q ∷ t) f r =
-      picked (λ (x : Row? A). x ≡ some r → f ≡ r.name) (eqb f q.name) (some q) (find f t)
+      picked (λ (x : Option (Form A)). x ≡ Some r → f ≡ r.name) (eqb f q.name) (Some q) (find f t)
       (λ h e. let s : q ≡ r = cc in eqb-true f q.name h ∙ ap (λ (x : Form A). x.name) s)
       (λ _ e. named t f r e)
 
@@ -61,7 +62,7 @@ module _ {A : Type 0} where
   each p r (q ∷ t) a (there i) = each p r t (both_right (p q) (all_rows p t) a) i
 
   -- where no letter stands twice, each row is found by its letter
-  pub found : (r : Form A) (t : List (Form A)) → apart t ≡ true → In r t → find r.name t ≡ some r
+  pub found : (r : Form A) (t : List (Form A)) → apart t ≡ true → In r t → find r.name t ≡ Some r
   found r [] a x = elim x [ ]
   found r (_ ∷ t) a here = rw (eq-eqb r.name r.name refl)
   found r (q ∷ t) a (there i) =
@@ -75,13 +76,13 @@ module _ {A : Type 0} where
       let d = both_right (leb r.a 16) _ e in
       record { first = leb-true r.a 16 (both_left (leb r.a 16) _ e); second = leb-true r.b 8 (both_left (leb r.b 8) _ d); third = leb-true r.c 8 (both_right (leb r.b 8) _ d); whole = inr refl }
 
-  by_found : (t : List (Form A)) (f : ℕ) (x : Row? A) → all_rows fits t ≡ true → find f t ≡ x → Bounded (columns_of x)
+  by_found : (t : List (Form A)) (f : ℕ) (x : Option (Form A)) (r : Row) → all_rows fits t ≡ true → find f t ≡ x → columns_of x ≡ Some r → Bounded r
   unfolding columns_of
-  by_found t f none a e = record { first = omega arith; second = omega arith; third = omega arith; whole = inl refl }
-  by_found t f (some r) a e = row_bounded r (each fits r t a (is_in t f r e))
+  by_found t f None r a e h = absurd (never cc)
+  by_found t f (Some q) r a e h = let s : columns q ≡ r = cc in rw (← s) (row_bounded q (each fits q t a (is_in t f q e)))
 
-  pub bounded : (t : List (Form A)) (f : ℕ) → all_rows fits t ≡ true → Bounded (columns_of (find f t))
-  bounded t f a = by_found t f (find f t) a refl
+  pub bounded : (t : List (Form A)) (f : ℕ) (r : Row) → all_rows fits t ≡ true → columns_of (find f t) ≡ Some r → Bounded r
+  bounded t f r a = by_found t f (find f t) r a refl
 
 -- ---- widths
 

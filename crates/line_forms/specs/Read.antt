@@ -1,13 +1,9 @@
 -- A line read at its places, by the row of its letter; Exactly.antt says of what form the lines are that are read.
-use Rattle.std.specs.Prelude.{List, ◌≡◌, ◌⊎◌, ℕ, zero, suc, ◌+◌, ◌-◌, ◌*◌, ◌≤◌, get_or, length}
+use Rattle.std.specs.Prelude.{List, Option, None, Some, ◌≡◌, ◌⊎◌, ℕ, zero, suc, ◌+◌, ◌-◌, ◌*◌, ◌≤◌, get_or, length}
 use Rattle.bits.specs.Choice.{when◌then◌else◌, ◌is◌, ◌<?◌}
-use Rattle.line_forms.specs.declared.Hex.{Hex}
-use Rattle.line_forms.specs.declared.Hex.TheVariants as H
-use Rattle.line_forms.specs.declared.Numbers.{Numbers}
-use Rattle.line_forms.specs.declared.Numbers.TheVariants as N
 use Rattle.line_forms.specs.declared.Row.{Row}
 use Rattle.line_forms.specs.Ascii.{letter}
-use Rattle.line_forms.specs.Table.{Form, Row?, none, some, find, InRange, wide}
+use Rattle.line_forms.specs.Table.{Form, find, InRange, wide}
 
 -- ---- a number
 
@@ -19,46 +15,51 @@ abbrev pub at : List ℕ → ℕ → ℕ
 at l i = get_or l i 0
 
 -- k digits from place i on, behind the number v
-unfoldable pub hex_from : ℕ → List ℕ → ℕ → ℕ → Hex
-hex_from zero l i v = H.Value v
-hex_from (suc k) l i v = when 15 <? digit_of (at l i) then H.Bad else hex_from k l (i + 1) (v * 16 + digit_of (at l i))
+unfoldable pub hex_from : ℕ → List ℕ → ℕ → ℕ → Option ℕ
+hex_from zero l i v = Some v
+hex_from (suc k) l i v = when 15 <? digit_of (at l i) then None else hex_from k l (i + 1) (v * 16 + digit_of (at l i))
 
 -- a space at place i, and k digits behind it
-unfoldable pub field_of : List ℕ → ℕ → ℕ → Hex
-field_of l i zero = H.Value 0
-field_of l i (suc k) = when at l i is letter " " then hex_from (suc k) l (i + 1) 0 else H.Bad
+unfoldable pub field_of : List ℕ → ℕ → ℕ → Option ℕ
+field_of l i zero = Some 0
+field_of l i (suc k) = when at l i is letter " " then hex_from (suc k) l (i + 1) 0 else None
 
 -- ---- the three numbers of a line
 
-abbrev pub third : ℕ → ℕ → Hex → Numbers
-third x y H.Bad = N.Bad
-third x y (H.Value z) = N.Values x y z
+abbrev pub third : ℕ → ℕ → Option ℕ → Option (ℕ × ℕ × ℕ)
+third x y None = None
+third x y (Some z) = Some (x, y, z)
 
-abbrev pub second : ℕ → Hex → Hex → Numbers
-second x H.Bad h = N.Bad
-second x (H.Value y) h = third x y h
+abbrev pub second : ℕ → Option ℕ → Option ℕ → Option (ℕ × ℕ × ℕ)
+second x None h = None
+second x (Some y) h = third x y h
 
-abbrev pub joined : Hex → Hex → Hex → Numbers
-joined H.Bad g h = N.Bad
-joined (H.Value x) g h = second x g h
+abbrev pub joined : Option ℕ → Option ℕ → Option ℕ → Option (ℕ × ℕ × ℕ)
+joined None g h = None
+joined (Some x) g h = second x g h
 
-unfoldable pub numbers_of : List ℕ → Row → Numbers
+unfoldable pub numbers_of : List ℕ → Row → Option (ℕ × ℕ × ℕ)
 numbers_of l r =
     when length l is r.total then joined (field_of l 1 r.a) (field_of l (1 + wide r.a) r.b) (field_of l (1 + wide r.a + wide r.b) r.c)
-    else N.Bad
+    else None
 
 -- ---- by a row
 
--- the code's row: the length of the line beside the digits; 0 where there is none
+-- the code's row: the length of the line beside the digits
 abbrev pub row_of : ℕ → ℕ → ℕ → Row
 row_of a b c = record { total = 1 + wide a + wide b + wide c; a = a; b = b; c = c }
 
 abbrev pub columns : {A : Type 0} → Form A → Row
 columns r = row_of r.a r.b r.c
 
-unfoldable pub columns_of : {A : Type 0} → Row? A → Row
-columns_of none = record { total = 0; a = 0; b = 0; c = 0 }
-columns_of (some r) = columns r
+unfoldable pub columns_of : {A : Type 0} → Option (Form A) → Option Row
+columns_of None = None
+columns_of (Some r) = Some (columns r)
+
+-- the numbers of a line by the row of its letter, where there is one
+unfoldable pub numbers_by : List ℕ → Option Row → Option (ℕ × ℕ × ℕ)
+numbers_by l None = None
+numbers_by l (Some r) = numbers_of l r
 
 -- the digits that the code's numbers hold; a line has its letter and its numbers
 pub record Bounded (r : Row) : Type 0 where
@@ -67,21 +68,21 @@ pub record Bounded (r : Row) : Type 0 where
   pub third : r.c ≤ 8
   pub whole : (r.total ≡ 0) ⊎ (r.total ≡ 1 + wide r.a + wide r.b + wide r.c)
 
-unfoldable pub Fits : {A : Type 0} → Row? A → ℕ → ℕ → ℕ → Type 0
-Fits none x y z = Unit
-Fits (some r) x y z = InRange r x y z
+unfoldable pub Fits : {A : Type 0} → Option (Form A) → ℕ → ℕ → ℕ → Type 0
+Fits None x y z = Unit
+Fits (Some r) x y z = InRange r x y z
 
 -- ---- what a line asks; where it is of no row's form, `nothing`
 
 module _ {A : Type 0} (nothing : A) where
-  unfoldable pub asks_of : Row? A → ℕ → ℕ → ℕ → A
-  asks_of none x y z = nothing
-  asks_of (some r) x y z = r.asks x y z
+  unfoldable pub asks_of : Option (Form A) → ℕ → ℕ → ℕ → A
+  asks_of None x y z = nothing
+  asks_of (Some r) x y z = r.asks x y z
 
-  abbrev pub asked : Row? A → Numbers → A
-  asked o N.Bad = nothing
-  asked o (N.Values x y z) = asks_of o x y z
+  abbrev pub asked : Option (Form A) → Option (ℕ × ℕ × ℕ) → A
+  asked o None = nothing
+  asked o (Some n) = asks_of o n.0 n.1 n.2
 
   -- by any table
   unfoldable pub read_by : List (Form A) → List ℕ → A
-  read_by t l = asked (find (at l 0) t) (numbers_of l (columns_of (find (at l 0) t)))
+  read_by t l = asked (find (at l 0) t) (numbers_by l (columns_of (find (at l 0) t)))

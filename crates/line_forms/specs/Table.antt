@@ -1,5 +1,5 @@
 -- A table of line forms, for any type A of what a line asks: a row is a letter, the digits of the up to three numbers behind it, and what the line asks.
-use Rattle.std.specs.Prelude.{Bool, true, not, List, [], ◌∷◌, ◌++◌, ℕ, zero, suc, ◌+◌, ◌^◌, ◌<◌}
+use Rattle.std.specs.Prelude.{Option, None, Some, Bool, true, not, List, [], ◌∷◌, ◌++◌, ℕ, zero, suc, ◌+◌, ◌^◌, ◌<◌}
 use Prim.Native.String.{String}
 use Rattle.bits.specs.Choice.{when◌then◌else◌, ◌is◌, ◌≤?◌, ◌and◌}
 use Rattle.line_forms.specs.Ascii.{letter}
@@ -18,13 +18,9 @@ abbrev pub form : {A : Type 0} → String → ℕ → ℕ → ℕ → (ℕ → �
 form s a b c f = record { name = letter s; a = a; b = b; c = c; asks = f }
 
 -- the row of a letter
-pub data Row? (A : Type 0) : Type 0 where
-  none : Row? A
-  some : Form A → Row? A
-
-abbrev pub find : {A : Type 0} → ℕ → List (Form A) → Row? A
-find f [] = none
-find f (r ∷ t) = when f is r.name then some r else find f t
+abbrev pub find : {A : Type 0} → ℕ → List (Form A) → Option (Form A)
+find f [] = None
+find f (r ∷ t) = when f is r.name then Some r else find f t
 
 -- ---- a line as it is printed
 

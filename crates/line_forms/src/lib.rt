@@ -1,21 +1,8 @@
-// The forms of a line, for any table of them: the types that the definitions speak of. What a line asks, and that it is read exactly when it is of a row's form, is in specs/; this crate has no code.
+// The forms of a line, for any table of them: the type that the definitions speak of. What a line asks, and that it is read exactly when it is of a row's form, is in specs/; this crate has no code.
 #![tactic(auto)]
 
-// A number, and the three of a line.
-#[derive(Clone, Copy)]
-pub enum Hex {
-    Value(u64),
-    Bad,
-}
-
-#[derive(Clone, Copy)]
-pub enum Numbers {
-    Values(u64, u32, u32),
-    Bad,
-}
-
 // A row of a table: the length of its line, and the digits of each number, 0 for none.
-#[derive(Clone, Copy)]
+#[derive(Clone, Copy, Debug, PartialEq, Eq)]
 pub struct Row {
     pub total: usize,
     pub a: usize,

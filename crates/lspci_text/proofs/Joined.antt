@@ -1,22 +1,30 @@
--- One more of a row of pieces of text.
+-- Pieces of text that are put one behind the other.
 use mathlib.Core.Path.{◌≡◌, sym, ap, ◌∙◌}
-use mathlib.Core.List.{List, ◌++◌, append-nil, append_assoc}
-use Prim.Native.Nat.{ℕ, zero, suc, ◌+◌}
-use native.Mathlib.Numerals.{add-one}
-use native.Mathlib.Nat.{add-zero, add-suc, suc-add}
+use mathlib.Core.List.{List}
+use Prim.Native.Nat.{ℕ, suc, ◌+◌, ◌-◌, ◌<◌, ◌≤◌}
+use Rattle.std.specs.Prelude.{◌++◌}
+use Rattle.std.proofs.lemmas.List.{append_assoc, append-nil}
+use native.Mathlib.Omega.{arith}
 use Rattle.lspci_text.specs.Dump.{join_from}
 
-join_last : (k : ℕ) (f : ℕ → List ℕ) (i : ℕ) → join_from (suc k) f i ≡ join_from k f i ++ f (i + k)
+-- behind what is put comes piece i, and then those that are left
+pub next_piece : (put : List ℕ) (f : ℕ → List ℕ) (n i : ℕ) → i < n → (put ++ f i) ++ join_from (n - (i + 1)) f (i + 1) ≡ put ++ join_from (n - i) f i
 unfolding join_from
-join_last zero f i = append-nil (f i) ∙ ap f (sym (add-zero i))
-join_last (suc k) f i =
-    rw (join_last k f (suc i), suc-add i k, ← add-suc i k) (sym (append_assoc (f i) (join_from k f (suc i)) (f (i + suc k))))
+next_piece put f n i h =
+    append_assoc put (f i) _
+    ∙ ap (λ m. put ++ (f i ++ join_from (n - (i + 1)) f m)) one_more
+    ∙ ap (λ k. put ++ join_from k f i) (sym left)
+  where
+    one_more : i + 1 ≡ suc i
+    one_more = omega arith
 
--- the piece of place n, put behind the k before it
-pub join_next : (x0 x1 x2 : List ℕ) (f : ℕ → List ℕ) (k i n : ℕ) → n ≡ i + k → x1 ≡ x0 ++ join_from k f i → x2 ≡ x1 ++ f n → x2 ≡ x0 ++ join_from (k + 1) f i
-join_next x0 x1 x2 f k i n e p q =
-    q ∙ rw (p, e, add-one, join_last k f i) (append_assoc x0 (join_from k f i) (f (i + k)))
+    left : n - i ≡ suc (n - (i + 1))
+    left = omega (arith, h)
 
-pub none_joined : (x : List ℕ) (f : ℕ → List ℕ) (i : ℕ) → x ≡ x ++ join_from 0 f i
+-- and behind the last there is none
+pub last_piece : (put : List ℕ) (f : ℕ → List ℕ) (n i : ℕ) → n ≤ i → put ++ join_from (n - i) f i ≡ put
 unfolding join_from
-none_joined x f i = sym (append-nil x)
+last_piece put f n i h = ap (λ k. put ++ join_from k f i) none ∙ append-nil put
+  where
+    none : n - i ≡ 0
+    none = omega (arith, h)

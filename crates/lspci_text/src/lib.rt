@@ -1,60 +1,68 @@
 // The 256 bytes as `lspci -n -xxx` prints them, so that `lspci -F FILE` decodes them.
 #![tactic(auto)]
 
-ghost use Rattle.std.specs.Prelude.{◌≡◌, ◌++◌, ◌+◌, ◌<◌, ◌≤◌, length, take};
+ghost use Rattle.std.specs.Prelude.{◌≡◌, ◌++◌, ◌+◌, ◌<◌, ◌≤◌, length};
 ghost use Rattle.lspci_text.specs.Dump.{join_from, cell_text, row_text, dump_text};
 
-// Sixteen bytes from `at` on, each after a space.
-fn put_cells(out: &mut [u8], o: usize, b: &[u8; 256], at: usize) -> usize
-    requires { (o + 48 ≤ length out.old) × (at + 16 ≤ 256) }
-    ensures out_after { take result out.new ≡ take o out.old ++ join_from 16 (cell_text b.now) at }
-    ensures value { (result ≡ o + 48) × (length out.new ≡ length out.old) }
+use text_pieces::Text;
+
+// Byte i after a space.
+#[tactic(auto, unfolding(crate::specs::Dump::cell_text))]
+fn put_cell<const N: usize>(out: &mut Text<N>, b: &[u8; 256], i: usize)
+    requires { (length out.old + 3 ≤ N) × (i < 256) }
+    ensures put { out.new ≡ out.old ++ cell_text b.now i }
+    ensures long { length out.new ≡ length out.old + 3 }
 {
-    let mut p = o;
-    let mut i: usize = 0;
-    while i < 16 {
-        let q = text_pieces::put(out, p, b" ");
-        p = lspci_head::put_pair(out, q, b[at + i]);
-        i += 1;
+    out.put(b" ");
+    lspci_head::put_pair(out, b[i]);
+}
+
+// Sixteen bytes from `at` on, each after a space.
+#[tactic(auto, using(crate::proofs::Joined::next_piece, crate::proofs::Joined::last_piece))]
+fn put_cells<const N: usize>(out: &mut Text<N>, b: &[u8; 256], at: usize)
+    requires { (length out.old + 48 ≤ N) × (at + 16 ≤ 256) }
+    ensures put { out.new ≡ out.old ++ join_from 16 (cell_text b.now) at }
+    ensures long { length out.new ≡ length out.old + 48 }
+{
+    for i in at..at + 16 {
+        put_cell(out, b, i);
     }
-    p
 }
 
 // Row j.
-fn put_row(out: &mut [u8], o: usize, b: &[u8; 256], j: usize) -> usize
-    requires { (o + 52 ≤ length out.old) × (j < 16) }
-    ensures out_after { take result out.new ≡ take o out.old ++ row_text b.now j }
-    ensures value { (result ≡ o + 52) × (length out.new ≡ length out.old) }
+#[tactic(auto, unfolding(crate::specs::Dump::row_text))]
+fn put_row<const N: usize>(out: &mut Text<N>, b: &[u8; 256], j: usize)
+    requires { (length out.old + 52 ≤ N) × (j < 16) }
+    ensures put { out.new ≡ out.old ++ row_text b.now j }
+    ensures long { length out.new ≡ length out.old + 52 }
 {
     let at = j * 16;
-    let p = lspci_head::put_pair(out, o, at as u8);
-    let q = text_pieces::put(out, p, b":");
-    let e = put_cells(out, q, b, at);
-    text_pieces::put(out, e, b"\n")
+    lspci_head::put_pair(out, at as u8);
+    out.put(b":");
+    put_cells(out, b, at);
+    out.put(b"\n");
 }
 
-fn put_rows(out: &mut [u8], o: usize, b: &[u8; 256]) -> usize
-    requires { o + 832 ≤ length out.old }
-    ensures out_after { take result out.new ≡ take o out.old ++ join_from 16 (row_text b.now) 0 }
-    ensures value { (result ≡ o + 832) × (length out.new ≡ length out.old) }
+#[tactic(auto, using(crate::proofs::Joined::next_piece, crate::proofs::Joined::last_piece))]
+fn put_rows<const N: usize>(out: &mut Text<N>, b: &[u8; 256])
+    requires { length out.old + 832 ≤ N }
+    ensures put { out.new ≡ out.old ++ join_from 16 (row_text b.now) 0 }
+    ensures long { length out.new ≡ length out.old + 832 }
 {
-    let mut p = o;
-    let mut j: usize = 0;
-    while j < 16 {
-        p = put_row(out, p, b, j);
-        j += 1;
+    for j in 0..16 {
+        put_row(out, b, j);
     }
-    p
 }
 
-// The whole dump, at the start of `out`.
-pub fn put_dump(out: &mut [u8], b: &[u8; 256]) -> usize
-    requires { 866 ≤ length out.old }
-    ensures out_after { take result out.new ≡ dump_text b.now }
-    ensures upper_bound { (result ≤ length out.new) × (length out.new ≡ length out.old) }
+// The whole dump.
+#[tactic(auto, unfolding(crate::specs::Dump::dump_text))]
+pub fn put_dump<const N: usize>(out: &mut Text<N>, b: &[u8; 256])
+    requires { length out.old + 866 ≤ N }
+    ensures put { out.new ≡ out.old ++ dump_text b.now }
+    ensures upper_bound { length out.new ≤ length out.old + 866 }
 {
-    let p = lspci_head::put_head(out, 0, b);
-    let q = text_pieces::put(out, p, b"\n");
-    let e = put_rows(out, q, b);
-    text_pieces::put(out, e, b"\n")
+    lspci_head::put_head(out, b);
+    out.put(b"\n");
+    put_rows(out, b);
+    out.put(b"\n");
 }

@@ -10,9 +10,8 @@ ghost use Rattle.rules.specs.Answers.{stepped};
 ghost use Rattle.rules.specs.Window.{bad_window, window_read_bit, window_step_of, requested, acknowledged, window_written, window_read_of, window_write_of};
 ghost use Rattle.mmio.specs.Shown.{shown_of};
 
-use access::Admitted;
-use answer::{Answer, Refusal};
-use rules::{Mapped, State, Stepped};
+use answer::{Answer, Refusal, Stepped};
+use rules::{Mapped, State};
 
 // ---- the registers, by their offsets
 
@@ -39,7 +38,7 @@ pub fn bad_offset(o: u32) -> bool
 }
 
 // What is asked of an access in the window.
-fn admitted(offset: u32, lanes: u32) -> Admitted
+fn admitted(offset: u32, lanes: u32) -> Result<(), Refusal>
     ensures { admits result ≡ admit (bad_window offset) WINDOW_OFFSET lanes no fine }
 {
     access::admit(bad_offset(offset), Refusal::WindowOffset, lanes)
@@ -48,6 +47,7 @@ fn admitted(offset: u32, lanes: u32) -> Admitted
 // ---- a guest read
 
 // The dword at an offset: ASSRREQ's mask reads 0, and so does any other offset.
+#[tactic(auto, using(bits::proofs::Tests::tests), unfolding(crate::specs::Shown::shown_of))]
 fn shown(w: Mapped, o: u32) -> u32
     ensures { result ≡ shown_of w o }
 {
@@ -73,6 +73,7 @@ fn shown(w: Mapped, o: u32) -> u32
 }
 
 // The enabled bytes of the dword at an offset, ones while busy and in the other lanes.
+#[tactic(auto, using(rules::proofs::WindowRuns::all_ones, crate::proofs::Bridge::value_is))]
 fn value(s: State, o: u32, lanes: u32) -> u32
     ensures { result ≡ lane_value (window_read_bit s o) lanes }
 {
@@ -83,18 +84,18 @@ fn value(s: State, o: u32, lanes: u32) -> u32
     plain::driven(lanes, shown(w, o))
 }
 
+#[tactic(auto, using(crate::proofs::Entry::read_refused, crate::proofs::Entry::read_made))]
 pub fn read(s: State, offset: u32, lanes: u32) -> Answer
     ensures { says result ≡ window_read_of s offset lanes }
 {
-    match admitted(offset, lanes) {
-        Admitted::No(r) => Answer::No(r),
-        Admitted::Yes => Answer::Value(value(s, offset, lanes)),
-    }
+    admitted(offset, lanes)?;
+    Ok(Some(value(s, offset, lanes)))
 }
 
 // ---- a guest write
 
 // ASSRREQ: of bits 3:0 those are set that are written 1 with the mask bit 16 higher, both in enabled lanes.
+#[tactic(auto, using(bits::proofs::Below::both_off, crate::proofs::Bridge::bit_first, crate::proofs::Bridge::request_off, crate::proofs::Bridge::request_on))]
 fn request(x: u32, lanes: u32, value: u32) -> u32
     ensures { result ≡ requested x lanes value }
 {
@@ -109,6 +110,7 @@ fn request(x: u32, lanes: u32, value: u32) -> u32
 }
 
 // FAULT_REG: lane 0 enabled and bit 0 zero clears it all.
+#[tactic(auto, using(crate::proofs::Bridge::bit_first), unfolding(rules::specs::Window::acknowledged))]
 fn acknowledge(x: u32, lanes: u32, value: u32) -> u32
     ensures { result ≡ acknowledged x lanes value }
 {
@@ -121,6 +123,7 @@ fn acknowledge(x: u32, lanes: u32, value: u32) -> u32
     x
 }
 
+#[tactic(auto, using(bits::proofs::Tests::tests), unfolding(rules::specs::Window::window_written))]
 fn written(w: Mapped, o: u32, lanes: u32, value: u32) -> Mapped
     ensures { result ≡ window_written w o lanes value }
 {
@@ -137,6 +140,7 @@ fn written(w: Mapped, o: u32, lanes: u32, value: u32) -> Mapped
 }
 
 // A write that is accepted; while busy it is dropped.
+#[tactic(auto, unfolding(rules::specs::Window::window_step_of))]
 fn taken(s: State, o: u32, lanes: u32, value: u32) -> State
     ensures { result ≡ window_step_of s o lanes value }
 {
@@ -149,16 +153,17 @@ fn taken(s: State, o: u32, lanes: u32, value: u32) -> State
 }
 
 // A guest write of the enabled bytes of `value` to the dword at `offset`.
-pub fn write(s: State, offset: u32, lanes: u32, value: u32) -> Stepped
+#[tactic(auto, using(crate::proofs::Entry::write_refused, crate::proofs::Entry::write_made))]
+pub fn write(s: State, offset: u32, lanes: u32, value: u32) -> Stepped<State>
     ensures { stepped result ≡ window_write_of s offset lanes value }
 {
     match admitted(offset, lanes) {
-        Admitted::No(r) => Stepped {
-            answer: Answer::No(r),
+        Err(r) => Stepped {
+            answer: Err(r),
             state: s,
         },
-        Admitted::Yes => Stepped {
-            answer: Answer::Done,
+        Ok(()) => Stepped {
+            answer: Ok(None),
             state: taken(s, offset, lanes, value),
         },
     }

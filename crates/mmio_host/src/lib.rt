@@ -5,8 +5,8 @@ ghost use Rattle.std.specs.Prelude.{◌≡◌};
 ghost use Rattle.rules.specs.Answers.{stepped};
 ghost use Rattle.rules.specs.Window.{beyond, masked, faulted, mirror_mask, mirrored, complete_of, fault_of, cycles_of, mirror_update_of};
 
-use answer::{Answer, Refusal};
-use rules::{Mapped, State, Stepped};
+use answer::{Answer, Refusal, Stepped};
+use rules::{Mapped, State};
 
 // Whether a bit of `m` is outside the mask.
 fn outside(mask: u32, m: u32) -> bool
@@ -23,20 +23,20 @@ fn masked(x: u32, m: u32, value: u32) -> u32
 }
 
 // The host has completed requests: the bits of ASSRREQ under `mask` are cleared.
-pub fn complete(s: State, mask: u32) -> Stepped
+pub fn complete(s: State, mask: u32) -> Stepped<State>
     ensures { stepped result ≡ complete_of s mask }
 {
     let mut t = s;
     if outside(0xF, mask) {
         return Stepped {
-            answer: Answer::No(Refusal::NotHost),
+            answer: Err(Refusal::NotHost),
             state: t,
         };
     }
     let x = masked(t.window.assrreq, mask, 0);
     t.window.assrreq = x;
     Stepped {
-        answer: Answer::Done,
+        answer: Ok(None),
         state: t,
     }
 }
@@ -52,20 +52,20 @@ fn kept(x: u32, word: u32) -> u32
 }
 
 // The host gives a fault word; it is lost where a fault is held.
-pub fn fault(s: State, word: u32) -> Stepped
+pub fn fault(s: State, word: u32) -> Stepped<State>
     ensures { stepped result ≡ fault_of s word }
 {
     let mut t = s;
     if outside(0x77FE, word) {
         return Stepped {
-            answer: Answer::No(Refusal::NotHost),
+            answer: Err(Refusal::NotHost),
             state: t,
         };
     }
     let x = kept(t.window.fault, word);
     t.window.fault = x;
     Stepped {
-        answer: Answer::Done,
+        answer: Ok(None),
         state: t,
     }
 }
@@ -117,26 +117,26 @@ fn mirror(w: Mapped, o: u32, m: u32, value: u32) -> Mapped
 }
 
 // The device's own change of the bits under `mask`, in the mirror at `offset`.
-pub fn mirror_update(s: State, offset: u32, mask: u32, value: u32) -> Stepped
+pub fn mirror_update(s: State, offset: u32, mask: u32, value: u32) -> Stepped<State>
     ensures { stepped result ≡ mirror_update_of s offset mask value }
 {
     let mut t = s;
     if mmio::bad_offset(offset) {
         return Stepped {
-            answer: Answer::No(Refusal::WindowOffset),
+            answer: Err(Refusal::WindowOffset),
             state: t,
         };
     }
     if outside(mask_at(offset), mask) {
         return Stepped {
-            answer: Answer::No(Refusal::NotHost),
+            answer: Err(Refusal::NotHost),
             state: t,
         };
     }
     let w = t.window;
     t.window = mirror(w, offset, mask, value);
     Stepped {
-        answer: Answer::Done,
+        answer: Ok(None),
         state: t,
     }
 }

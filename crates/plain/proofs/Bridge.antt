@@ -6,7 +6,6 @@ use Prim.Native.Nat.{ℕ, ◌+◌, ◌/◌, ◌%◌, ◌^◌, ◌<◌, ◌≤◌
 use native.Mathlib.Omega.{arith}
 use native.Mathlib.Nat.{zero-add, add-zero, div-one}
 use lib.Dec.{T, eqb, eqb→eq}
-use borrow.Author.Tests.{ltb-false}
 use lib.ListN.{length, get_or}
 use Rattle.bits.specs.Bits.{bit, number_of, byte_of, joined, blend_k}
 use Rattle.bits.specs.Choice.{pick, ◌is◌, all_below}

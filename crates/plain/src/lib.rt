@@ -9,6 +9,7 @@ ghost use Rattle.plain.specs.Bytes.{spread_of, driven_of, if_enabled, lane_of, s
 // ---- a read
 
 // The mask of the enabled lanes.
+#[tactic(auto, unfolding(crate::specs::Bytes::spread_of))]
 fn spread(lanes: u32) -> u32
     ensures { result ≡ spread_of lanes }
 {
@@ -19,6 +20,7 @@ fn spread(lanes: u32) -> u32
 const UNDRIVEN: u32 = 4294967295;
 
 // The enabled bytes of a dword, FF in the other lanes.
+#[tactic(auto, using(crate::proofs::Bridge::blended_is))]
 pub fn driven(lanes: u32, dword: u32) -> u32
     ensures { result ≡ driven_of lanes dword }
 {
@@ -27,6 +29,7 @@ pub fn driven(lanes: u32, dword: u32) -> u32
 
 // ---- a store
 
+#[tactic(auto, using(bits::proofs::Tests::tests), unfolding(crate::specs::Bytes::if_enabled))]
 fn if_enabled(on: u32, mask: u8) -> u8
     ensures { result ≡ if_enabled on mask }
 {
@@ -34,6 +37,7 @@ fn if_enabled(on: u32, mask: u8) -> u8
 }
 
 // What one byte holds afterwards: `on` is its lane, `mask` the bits that take what is written.
+#[tactic(auto, unfolding(crate::specs::Bytes::lane_of))]
 fn lane(on: u32, mask: u8, old: u8, w: u8) -> u8
     ensures { result ≡ lane_of on mask old w }
 {
@@ -50,15 +54,17 @@ fn put4(m: &mut [u8; 256], o: usize, b0: u8, b1: u8, b2: u8, b3: u8)
     m[o + 3] = b3;
 }
 
-// The enabled bytes of `value` at the dword at `o`, each under its mask.
+// The enabled bytes of `value` at the dword at `o`, each under its mask. Numbers, and no `Admitted`, which would ask more than that the dword lies within the bytes.
+#[tactic(auto, unfolding(crate::specs::Bytes::stored_of))]
 pub fn store(m: &mut [u8; 256], o: usize, lanes: u32, value: u32, k0: u8, k1: u8, k2: u8, k3: u8)
     requires { o + 3 < 256 }
     ensures { m.new ≡ stored_of m.old o lanes value k0 k1 k2 k3 }
 {
-    let b0 = lane(lanes % 2, k0, m[o], (value % 256) as u8);
-    let b1 = lane(lanes / 2 % 2, k1, m[o + 1], (value / 256 % 256) as u8);
-    let b2 = lane(lanes / 4 % 2, k2, m[o + 2], (value / 65536 % 256) as u8);
-    let b3 = lane(lanes / 8 % 2, k3, m[o + 3], (value / 16777216 % 256) as u8);
+    let w = value.to_le_bytes();
+    let b0 = lane(lanes % 2, k0, m[o], w[0]);
+    let b1 = lane(lanes / 2 % 2, k1, m[o + 1], w[1]);
+    let b2 = lane(lanes / 4 % 2, k2, m[o + 2], w[2]);
+    let b3 = lane(lanes / 8 % 2, k3, m[o + 3], w[3]);
     put4(m, o, b0, b1, b2, b3);
 }
 
@@ -68,9 +74,7 @@ pub fn store(m: &mut [u8; 256], o: usize, lanes: u32, value: u32, k0: u8, k1: u8
 pub fn reset(m: &mut [u8; 256], masks: &[u8; 256], defaults: &[u8; 256])
     ensures { m.new ≡ returned_of masks.now defaults.now m.old }
 {
-    let mut i: usize = 0;
-    while i < 256 {
+    for i in 0..256 {
         m[i] = bits::blend(masks[i], m[i], defaults[i]);
-        i += 1;
     }
 }

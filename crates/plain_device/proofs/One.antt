@@ -6,20 +6,20 @@ use Rattle.answer.proofs.Agree.{one_answer}
 use Rattle.answer.proofs.One as A
 use Rattle.host_updates.specs.Update.{Lent}
 use Rattle.plain_device.specs.declared.Registers.{Registers}
-use Rattle.plain_device.specs.declared.Stepped.{Stepped}
+use Rattle.answer.specs.declared.Stepped.{Stepped}
 use Rattle.plain_device.specs.Device.{stepped}
 
 abbrev of : List ℕ → Registers
 of m = record { bytes = m }
 
-abbrev hears : Lent → Stepped
+abbrev hears : Lent → Stepped Registers
 hears r = record { answer = A.hears r.reply; state = of r.bytes }
 
-heard : (a : Stepped) → hears (stepped a) ≡ a
+heard : (a : Stepped Registers) → hears (stepped a) ≡ a
 heard a = rw (A.heard a.answer)
 
 -- a write and a host update: whichever outcome is promised
-pub one_step : {r : Lent} (p q : Stepped) → stepped p ≡ r → stepped q ≡ r → p ≡ q
+pub one_step : {r : Lent} (p q : Stepped Registers) → stepped p ≡ r → stepped q ≡ r → p ≡ q
 one_step p q e f = one_answer stepped hears heard p q e f
 
 -- both resets say which bytes the device then holds

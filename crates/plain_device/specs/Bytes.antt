@@ -2,8 +2,7 @@
 use Rattle.std.specs.Prelude.{List, ℕ, ◌+◌, get_or}
 use Rattle.bits.specs.Bits.{joined}
 use Rattle.answer.specs.Refusals.{Reply, fine, no, OFFSET}
-use Rattle.answer.specs.Said.{says}
-use Rattle.answer.specs.declared.Answer.{Answer}
+use Rattle.answer.specs.Said.{Answer, says}
 use Rattle.access.specs.Access.{bad_offset, admit}
 use Rattle.plain.specs.Plain.{read_reply}
 use Rattle.plain.specs.Bytes.{driven_of, stored_of}

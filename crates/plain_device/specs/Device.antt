@@ -1,5 +1,6 @@
 -- A plain device's entries, by the plain rule ('How a bit behaves'; refusals 5, 6 and 7 as in 'Refusal numbers').
 -- m are the 256 bytes that it holds; the tables say, byte by byte, each bit's default and who may change it.
+use Rattle.plain_device.specs.declared.Registers.{Registers}
 use Rattle.std.specs.Prelude.{List, ℕ, get_or}
 use Rattle.bits.specs.Choice.{when◌then◌else◌, ◌<?◌}
 use Rattle.answer.specs.Refusals.{Reply, fine, no, OFFSET, NOT_HOST}
@@ -10,7 +11,7 @@ use Rattle.host_updates.specs.Update.{Lent, lent}
 use Rattle.plain_device.specs.declared.Tables.{Tables}
 use Rattle.plain_device.specs.declared.Event.{Event}
 use Rattle.plain_device.specs.declared.Event.TheVariants.{Read, Write, HostUpdate, FunctionReset, PlatformReset}
-use Rattle.plain_device.specs.declared.Stepped.{Stepped}
+use Rattle.answer.specs.declared.Stepped.{Stepped}
 
 -- ---- what is said, and the bytes afterwards
 
@@ -40,5 +41,5 @@ happens t PlatformReset m = lent fine t.defaults
 
 -- ---- the answers
 
-abbrev pub stepped : Stepped → Lent
+abbrev pub stepped : Stepped Registers → Lent
 stepped r = lent (says r.answer) r.state.bytes

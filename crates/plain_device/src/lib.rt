@@ -7,7 +7,7 @@ ghost use Rattle.plain_device.specs.Device.{read_of, write_of, host_of, function
 ghost use Rattle.plain_device.specs.Bytes.{dword_of, read_bytes, stored_bytes, write_bytes, answered};
 
 use access::Admitted;
-use answer::Answer;
+use answer::{Answer, Stepped};
 
 // What the device holds. Every pattern of bytes is a state.
 #[derive(Clone, Copy)]
@@ -24,13 +24,6 @@ pub struct Tables {
     pub resets: [u8; 256],
 }
 
-// What is answered, and what the device then holds.
-#[derive(Clone, Copy)]
-pub struct Stepped {
-    pub answer: Answer,
-    pub state: Registers,
-}
-
 // What can happen to the device: a guest's read (offset, lanes) and write (offset, lanes, value), the host's update (offset, mask, value) and function reset, and a platform reset.
 #[derive(Clone, Copy)]
 pub enum Event {
@@ -43,31 +36,32 @@ pub enum Event {
 
 // ---- over 256 bytes that are lent
 
-fn dword(m: &[u8; 256], o: usize) -> u32
-    requires { o + 3 < 256 }
-    ensures { result ≡ dword_of m.now o }
+#[tactic(auto, unfolding(crate::specs::Bytes::dword_of))]
+fn dword(m: &[u8; 256], a: Admitted) -> u32
+    ensures { result ≡ dword_of m.now a.offset }
 {
+    let o = a.offset;
     bits::join(m[o], m[o + 1], m[o + 2], m[o + 3])
 }
 
+#[tactic(auto, using(crate::proofs::Entry::read_refused, crate::proofs::Entry::read_made))]
 pub fn read_in(m: &[u8; 256], offset: u32, lanes: u32) -> Answer
     ensures { says result ≡ read_bytes m.now offset lanes }
 {
-    match access::direct(offset, lanes) {
-        Admitted::No(r) => Answer::No(r),
-        Admitted::Yes => Answer::Value(plain::driven(lanes, dword(m, offset as usize))),
-    }
+    let a = access::direct(offset, lanes)?;
+    Ok(Some(plain::driven(a.lanes, dword(m, a))))
 }
 
 // The enabled bytes, each under its guest mask.
-fn store(m: &mut [u8; 256], guests: &[u8; 256], o: usize, lanes: u32, value: u32)
-    requires { o + 3 < 256 }
-    ensures { m.new ≡ stored_bytes guests.now m.old o lanes value }
+#[tactic(auto, unfolding(crate::specs::Bytes::stored_bytes))]
+fn store(m: &mut [u8; 256], guests: &[u8; 256], a: Admitted, value: u32)
+    ensures { m.new ≡ stored_bytes guests.now m.old a.offset a.lanes value }
 {
+    let o = a.offset;
     plain::store(
         m,
         o,
-        lanes,
+        a.lanes,
         value,
         guests[o],
         guests[o + 1],
@@ -76,6 +70,7 @@ fn store(m: &mut [u8; 256], guests: &[u8; 256], o: usize, lanes: u32, value: u32
     );
 }
 
+#[tactic(auto, using(crate::proofs::Entry::write_refused, crate::proofs::Entry::write_made))]
 pub fn write_in(
     m: &mut [u8; 256],
     guests: &[u8; 256],
@@ -85,13 +80,9 @@ pub fn write_in(
 ) -> Answer
     ensures { answered result m.new ≡ write_bytes guests.now m.old offset lanes value }
 {
-    match access::direct(offset, lanes) {
-        Admitted::No(r) => Answer::No(r),
-        Admitted::Yes => {
-            store(m, guests, offset as usize, lanes, value);
-            Answer::Done
-        }
-    }
+    let a = access::direct(offset, lanes)?;
+    store(m, guests, a, value);
+    Ok(None)
 }
 
 // ---- the entries, over a state by value
@@ -105,7 +96,13 @@ pub fn read(s: Registers, offset: u32, lanes: u32) -> Answer
 }
 
 // A guest write of the enabled bytes of `value` to the dword at `offset`, under the guest masks.
-pub fn write(s: Registers, guests: &[u8; 256], offset: u32, lanes: u32, value: u32) -> Stepped
+pub fn write(
+    s: Registers,
+    guests: &[u8; 256],
+    offset: u32,
+    lanes: u32,
+    value: u32,
+) -> Stepped<Registers>
     ensures { stepped result ≡ write_of guests.now s.bytes offset lanes value }
 {
     let mut t = s;
@@ -114,7 +111,13 @@ pub fn write(s: Registers, guests: &[u8; 256], offset: u32, lanes: u32, value: u
 }
 
 // The host's change of the bits under `mask`, in the byte at `offset`, within the host masks.
-pub fn host_update(s: Registers, hosts: &[u8; 256], offset: u32, mask: u8, value: u8) -> Stepped
+pub fn host_update(
+    s: Registers,
+    hosts: &[u8; 256],
+    offset: u32,
+    mask: u8,
+    value: u8,
+) -> Stepped<Registers>
     ensures { stepped result ≡ host_of hosts.now s.bytes offset mask value }
 {
     let mut t = s;
@@ -123,6 +126,7 @@ pub fn host_update(s: Registers, hosts: &[u8; 256], offset: u32, mask: u8, value
 }
 
 // A function reset, which is the host's to call: the bits under the reset masks return to default.
+#[tactic(auto, using(crate::proofs::Bridge::reset_is))]
 pub fn function_reset(s: Registers, resets: &[u8; 256], defaults: &[u8; 256]) -> Registers
     ensures { result.bytes ≡ function_reset_of resets.now defaults.now s.bytes }
 {

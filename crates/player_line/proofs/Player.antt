@@ -1,10 +1,8 @@
 -- The machine with the session player's lines, from the fresh state: its answers are those that the rules give, line by line, in whatever blocks the input comes.
 use mathlib.Core.Path.{◌≡◌, refl, ap, ◌∙◌}
 use mathlib.Core.List.{List, [], ◌∷◌}
-use mathlib.Core.Bool.{false}
 use Prim.Native.Nat.{ℕ}
 use native.Mathlib.Omega.{arith}
-use Rattle.map.specs.Map.{defaults, guests, hosts, resets}
 use Rattle.rules.specs.declared.State.{State}
 use Rattle.rules.specs.Fresh.{fresh_of}
 use Rattle.rules.proofs.Good.{Good, fresh_good}
@@ -14,12 +12,9 @@ use Rattle.session.specs.Session.{answers, all_lines, joins, blocks_text}
 use Rattle.session.proofs.Blocks.{in_blocks}
 use Rattle.player_step.specs.Player.{asks, line_next, line_say, player_of}
 use Rattle.player_step.proofs.Bridge.{line_is, asked_good}
-use Rattle.player_line.specs.Box.{Box, box, with, line_box, line_text}
-use Rattle.player_line.proofs.Alike.{next_alike, say_alike}
-
--- a state's bytes and flags, under the map's tables
-abbrev pub boxed : State → Box
-boxed s = box false defaults guests hosts resets s.bytes s.flags
+use Rattle.player_line.specs.Box.{with, line_box, line_text}
+use Rattle.player_line.specs.Boxed.{boxed}
+use Rattle.player_line.specs.Alike.{next_alike, say_alike}
 
 say_is : (s : State) → Good s → (l : List ℕ) → line_text (boxed s) l ≡ line_say s l
 say_is s g l = ap (λ (r : Lent). reply_text r.reply) (line_is s g l)

@@ -1,7 +1,6 @@
 -- The machine with a sheet's lines, from the defaults: its answers are those that the rules give, line by line, in whatever blocks the input comes, and its bytes are what the run of the lines' events leaves.
 use mathlib.Core.Path.{◌≡◌, refl, ap, ◌∙◌}
 use mathlib.Core.List.{List, [], ◌∷◌}
-use mathlib.Core.Bool.{true}
 use Prim.Native.Nat.{ℕ}
 use native.Mathlib.Omega.{arith}
 use Rattle.rules.specs.declared.Flags.{Flags}
@@ -14,12 +13,9 @@ use Rattle.session.proofs.Blocks.{in_blocks, after_blocks}
 use Rattle.sheet_step.specs.Player.{means, events_of, line_next, line_say, sheet_player_of}
 use Rattle.sheet_step.proofs.Bridge.{Good, meant_is, meant_good}
 use Rattle.sheet_step.proofs.Events.{session_runs}
-use Rattle.player_line.specs.Box.{Box, box, with, line_box, line_text}
-use Rattle.player_line.proofs.Alike.{next_alike, say_alike}
-
--- the device's tables, the bytes that it holds, and flags that it has no use for
-abbrev pub boxed_with : Tables → Flags → List ℕ → Box
-boxed_with t c m = box true t.defaults t.guests t.hosts t.resets m c
+use Rattle.player_line.specs.Box.{Box, line_box, line_text}
+use Rattle.player_line.specs.Boxed.{boxed_with}
+use Rattle.player_line.specs.Alike.{next_alike, say_alike}
 
 module _ (t : Tables) (c : Flags) (d : Good t.defaults) where
   say_is : (m : List ℕ) → Good m → (l : List ℕ) → line_text (boxed_with t c m) l ≡ line_say t m l

@@ -1,1 +1,3 @@
 pub mod Box
+pub mod Boxed
+pub mod Alike

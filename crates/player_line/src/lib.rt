@@ -1,65 +1,161 @@
-// A line answered over 256 bytes that are lent: of the session player, or of a sheet's, by the rows that each takes.
+// The machines that answer lines over 256 bytes that they hold: the session player and a sheet's device, each by the rows that it takes.
 #![tactic(auto)]
 
-ghost use Rattle.std.specs.Prelude.{◌≡◌, ◌++◌, ◌+◌, ◌≤◌, length, take};
-ghost use Rattle.guest_write.specs.Bytes.{wrote};
-ghost use Rattle.player_line.specs.Box.{box, answer_in, line_box, line_text};
+ghost use Rattle.std.specs.Prelude.{◌≡◌, true, false, ◌++◌, ◌+◌, ◌≤◌, length};
+ghost use Rattle.map.specs.Map.{defaults, resets};
+ghost use Rattle.rules.specs.Fresh.{fresh_of, fresh_flags};
+ghost use Rattle.player_line.specs.Box.{Box, box, line_box, line_text};
+ghost use Rattle.player_line.specs.Boxed.{boxed, boxed_with};
+ghost use Rattle.player_line.specs.Alike.{next_alike, say_alike, some};
 
-use guest_write::Wrote;
+use plain_device::Tables;
 use rules::Flags;
+use session_loop::Machine;
+use std::marker::Model;
+use text_pieces::Text;
 
-// What a line says and does: on a sheet's device where `sheet` is true, else by the session player.
-fn answer(
-    sheet: bool,
-    defaults: &[u8; 256],
-    guests: &[u8; 256],
-    hosts: &[u8; 256],
-    resets: &[u8; 256],
-    m: &mut [u8; 256],
-    c: Flags,
-    l: &[u8],
-) -> Wrote
-    ensures { wrote result m.new ≡ answer_in (box sheet defaults.now guests.now hosts.now resets.now m.old c) l.now }
-{
-    if sheet {
-        let q = sheet_lines::parse(l);
-        return Wrote {
-            answer: sheet_step::ask(defaults, guests, hosts, resets, m, q),
-            flags: c,
-        };
+// Bytes of an unfinished line that are kept: more than any line that is of a form has.
+const MOST: usize = 16;
+
+// What is kept of a line, and a block of 8192 bytes.
+pub const BUFFER: usize = 8208;
+
+// An answer has at most 12 bytes, and a line at least one.
+pub const ANSWERS: usize = 98496;
+
+// The session player: the masks of the built-in map, and the bytes and flags of a state.
+#[derive(Drop)]
+pub struct SessionPlayer {
+    guests: [u8; 256],
+    hosts: [u8; 256],
+    bytes: [u8; 256],
+    flags: Flags,
+}
+
+impl Model for SessionPlayer {
+    ghost Value = { Box };
+
+    ghost view = { λ p. box false defaults p.guests p.hosts resets p.bytes p.flags };
+}
+
+impl SessionPlayer {
+    // In the fresh state.
+    #[tactic(auto, unfolding(rules::specs::Fresh::fresh_of))]
+    pub fn new() -> Self
+        ensures { result ≡ boxed fresh_of }
+    {
+        SessionPlayer::holding(
+            map::all_guests(),
+            map::all_hosts(),
+            map::all_defaults(),
+            function_reset::fresh_flags(),
+        )
     }
-    let q = line_table::parse_player(l);
-    player_step::ask(guests, hosts, m, c, q)
+
+    // With any masks, bytes and flags.
+    pub fn holding(guests: [u8; 256], hosts: [u8; 256], bytes: [u8; 256], flags: Flags) -> Self
+        ensures { result ≡ box false defaults guests hosts resets bytes flags }
+    {
+        SessionPlayer {
+            guests,
+            hosts,
+            bytes,
+            flags,
+        }
+    }
 }
 
-#[derive(Clone, Copy)]
-pub struct Lined {
-    pub filled: usize,
-    pub flags: Flags,
+impl<const N: usize> Machine<N> for SessionPlayer {
+    ghost next = { line_box };
+
+    ghost say = { line_text };
+
+    ghost most = { 16 };
+
+    ghost widest = { 12 };
+
+    ghost some = { some };
+
+    ghost next_alike = { next_alike };
+
+    ghost say_alike = { say_alike };
+
+    fn kept() -> usize {
+        MOST
+    }
+
+    fn answer(&mut self, line: &[u8], out: &mut Text<N>) {
+        let q = line_table::parse_player(line);
+        let a = player_step::ask(
+            &self.guests,
+            &self.hosts,
+            &mut self.bytes,
+            &mut self.flags,
+            q,
+        );
+        text_answer::put(out, a);
+    }
 }
 
-// One line, without its LF: its answer goes to `out` from place `o` on.
-pub fn line(
-    sheet: bool,
-    defaults: &[u8; 256],
-    guests: &[u8; 256],
-    hosts: &[u8; 256],
-    resets: &[u8; 256],
-    m: &mut [u8; 256],
-    c: Flags,
-    l: &[u8],
-    out: &mut [u8],
-    o: usize,
-) -> Lined
-    requires { o + 12 ≤ length out.old }
-    ensures flags_after { box sheet defaults.now guests.now hosts.now resets.now m.new result.flags ≡ line_box (box sheet defaults.now guests.now hosts.now resets.now m.old c) l.now }
-    ensures out_after { take result.filled out.new ≡ take o out.old ++ line_text (box sheet defaults.now guests.now hosts.now resets.now m.old c) l.now }
-    ensures out_len_unchanged { length out.new ≡ length out.old }
-    ensures filled_bound { result.filled ≤ o + 12 }
-{
-    let w = answer(sheet, defaults, guests, hosts, resets, m, c, l);
-    let a = w.answer;
-    let filled = text_answer::put(out, o, a);
-    let flags = w.flags;
-    Lined { filled, flags }
+// A sheet's device: its tables, and the bytes that it holds.
+#[derive(Drop)]
+pub struct SheetPlayer {
+    tables: Tables,
+    bytes: [u8; 256],
+}
+
+// It has no flags: those of the box are never read, and stay.
+impl Model for SheetPlayer {
+    ghost Value = { Box };
+
+    ghost view = { λ p. boxed_with p.tables fresh_flags p.bytes };
+}
+
+impl SheetPlayer {
+    // With the defaults.
+    pub fn new(tables: Tables) -> Self
+        ensures { result ≡ boxed_with tables fresh_flags tables.defaults }
+    {
+        let bytes = tables.defaults;
+        SheetPlayer::holding(tables, bytes)
+    }
+
+    // With any bytes.
+    pub fn holding(tables: Tables, bytes: [u8; 256]) -> Self
+        ensures { result ≡ boxed_with tables fresh_flags bytes }
+    {
+        SheetPlayer { tables, bytes }
+    }
+}
+
+impl<const N: usize> Machine<N> for SheetPlayer {
+    ghost next = { line_box };
+
+    ghost say = { line_text };
+
+    ghost most = { 16 };
+
+    ghost widest = { 12 };
+
+    ghost some = { some };
+
+    ghost next_alike = { next_alike };
+
+    ghost say_alike = { say_alike };
+
+    fn kept() -> usize {
+        MOST
+    }
+
+    fn answer(&mut self, line: &[u8], out: &mut Text<N>) {
+        let q = sheet_lines::parse(line);
+        let Tables {
+            defaults,
+            guests,
+            hosts,
+            resets,
+        } = &self.tables;
+        let a = sheet_step::ask(defaults, guests, hosts, resets, &mut self.bytes, q);
+        text_answer::put(out, a);
+    }
 }

@@ -1,5 +1,5 @@
 -- What is asked of the player, over lent bytes and flags, as the code does it; proofs/Bridge.antt shows that it comes to the rules.
-use Rattle.std.specs.Prelude.{List, ℕ}
+use Rattle.std.specs.Prelude.{Option, None, Some, List, ℕ}
 use Rattle.answer.specs.Refusals.{fine, no, LINE}
 use Rattle.map.specs.Map.{defaults}
 use Rattle.rules.specs.declared.Flags.{Flags}
@@ -31,7 +31,7 @@ module _ (g h m : List ℕ) (c : Flags) where
   happens_in (PortWrite p w v) = none_in
   happens_in (InWindow e) = none_in
 
-  unfoldable pub asked_of : Asked → Lent
-  asked_of (Q.Event e) = happens_in e
-  asked_of (Q.Look k) = none_in
-  asked_of Q.Nothing = none_in
+  unfoldable pub asked_of : Option Asked → Lent
+  asked_of (Some (Q.Event e)) = happens_in e
+  asked_of (Some (Q.Look k)) = none_in
+  asked_of None = none_in

@@ -1,5 +1,5 @@
 -- The session player ('The session player'): what a line says and does, by the rules.
-use Rattle.std.specs.Prelude.{List, ℕ}
+use Rattle.std.specs.Prelude.{Option, None, Some, List, ℕ}
 use Rattle.answer.specs.Refusals.{LINE}
 use Rattle.rules.specs.declared.State.{State}
 use Rattle.rules.specs.Access.{Outcome, refused}
@@ -13,14 +13,14 @@ use Rattle.text_answer.specs.Text.{reply_text}
 use Rattle.session.specs.Session.{all_lines, answers}
 
 -- an event happens; a line of no form does nothing, and is refused, 9; a look is none of the player's
-abbrev pub asked_in : Asked → State → Outcome
-asked_in (Q.Event e) s = happens e s
-asked_in (Q.Look k) s = refused LINE s
-asked_in Q.Nothing s = refused LINE s
+abbrev pub asked_in : Option Asked → State → Outcome
+asked_in (Some (Q.Event e)) s = happens e s
+asked_in (Some (Q.Look k)) s = refused LINE s
+asked_in None s = refused LINE s
 
 -- what a line asks
-abbrev pub asks : List ℕ → Asked
-asks l = read_by Q.Nothing player_rows l
+abbrev pub asks : List ℕ → Option Asked
+asks l = read_by None player_rows l
 
 abbrev pub line_next : State → List ℕ → State
 line_next s l = (asked_in (asks l) s).state

@@ -1,65 +1,56 @@
-// What is asked of the session player, over 256 bytes that are lent, with the flags by value.
+// What is asked of the session player, over 256 bytes and flags that are lent.
 #![tactic(auto)]
 
-ghost use Rattle.std.specs.Prelude.{◌≡◌};
-ghost use Rattle.guest_write.specs.Bytes.{wrote};
+ghost use Rattle.std.specs.Prelude.{◌≡◌, Err};
+ghost use Rattle.answer.specs.Said.{says};
+ghost use Rattle.guest_write.specs.Bytes.{lent};
 ghost use Rattle.player_step.specs.Ask.{happens_in, asked_of};
 
 use answer::{Answer, Refusal};
 use asked::Asked;
-use guest_write::Wrote;
 use rules::{Event, Flags};
 
 // A line of no form.
-fn none(c: Flags) -> Wrote
-    ensures { (result.answer ≡ Answer.No Refusal.Line) × (result.flags ≡ c) }
+fn none() -> Answer
+    ensures { result ≡ Err Refusal.Line }
 {
-    Wrote {
-        answer: Answer::No(Refusal::Line),
-        flags: c,
-    }
+    Err(Refusal::Line)
 }
 
 // What happens to bytes and flags; ports and window are not the player's.
-fn happen(guest: &[u8; 256], host: &[u8; 256], m: &mut [u8; 256], c: Flags, e: Event) -> Wrote
-    ensures { wrote result m.new ≡ happens_in guest.now host.now m.old c e }
+#[tactic(auto, unfolding(crate::specs::Ask::happens_in))]
+fn happen(guest: &[u8; 256], host: &[u8; 256], m: &mut [u8; 256], c: &mut Flags, e: Event) -> Answer
+    ensures { lent (says result) m.new c.new ≡ happens_in guest.now host.now m.old c.old e }
 {
     match e {
         Event::Write(o, l, v) => guest_write::write(m, guest, c, o, l, v),
-        Event::Read(o, l) => Wrote {
-            answer: guest_read::read(m, c.busy, o, l),
-            flags: c,
-        },
-        Event::HostUpdate(o, k, v) => Wrote {
-            answer: host_updates::host_update(m, host, o, k, v),
-            flags: c,
-        },
+        Event::Read(o, l) => guest_read::read(m, c.busy, o, l),
+        Event::HostUpdate(o, k, v) => host_updates::host_update(m, host, o, k, v),
         Event::EndSignal => {
-            let after = function_reset::end(m, c);
-            Wrote {
-                answer: Answer::Done,
-                flags: after,
-            }
+            function_reset::end(m, c);
+            Ok(None)
         }
         Event::PlatformReset => {
             *m = map::all_defaults();
-            Wrote {
-                answer: Answer::Done,
-                flags: function_reset::fresh_flags(),
-            }
+            *c = function_reset::fresh_flags();
+            Ok(None)
         }
-        Event::PortRead(_, _) => none(c),
-        Event::PortWrite(_, _, _) => none(c),
-        Event::InWindow(_) => none(c),
+        Event::PortRead(_, _) | Event::PortWrite(_, _, _) | Event::InWindow(_) => none(),
     }
 }
 
-pub fn ask(guest: &[u8; 256], host: &[u8; 256], m: &mut [u8; 256], c: Flags, q: Asked) -> Wrote
-    ensures { wrote result m.new ≡ asked_of guest.now host.now m.old c q }
+#[tactic(auto, unfolding(crate::specs::Ask::asked_of))]
+pub fn ask(
+    guest: &[u8; 256],
+    host: &[u8; 256],
+    m: &mut [u8; 256],
+    c: &mut Flags,
+    q: Option<Asked>,
+) -> Answer
+    ensures { lent (says result) m.new c.new ≡ asked_of guest.now host.now m.old c.old q }
 {
     match q {
-        Asked::Event(e) => happen(guest, host, m, c, e),
-        Asked::Look(_) => none(c),
-        Asked::Nothing => none(c),
+        Some(Asked::Event(e)) => happen(guest, host, m, c, e),
+        Some(Asked::Look(_)) | None => none(),
     }
 }

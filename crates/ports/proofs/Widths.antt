@@ -39,3 +39,7 @@ good_width w e = go (eqb w 1) (eqb w 2) (eqb w 4) refl refl refl (not-false _ e)
     go false true z p q r t = inr (inl (eqb-true w 2 q))
     go false false true p q r t = inr (inr (eqb-true w 4 r))
     go false false false p q r t = absurd (subst T (sym t) tt)
+
+-- the widest, where it is no other
+pub wide_4 : (w : ℕ) → bad_width w ≡ false → (w ≡ 1 → ⊥) → (w ≡ 2 → ⊥) → w ≡ 4
+wide_4 w e = width_4 w (good_width w e)

@@ -1,14 +1,14 @@
 // The port pair CF8h and CFCh, over a state by value.
 #![tactic(auto)]
 
-ghost use Rattle.std.specs.Prelude.{◌≡◌, ◌+◌, ◌%◌, ◌^◌, ◌<◌, ◌≤◌};
+ghost use Rattle.std.specs.Prelude.{◌≡◌, false, ◌+◌, ◌%◌, ◌^◌, ◌<◌, ◌≤◌};
 ghost use Rattle.rules.specs.Ports.{bad_width, at_latch, at_data, not_ours, other_function, here, latch_of, port_lanes, placed, port_read_of, port_write_of};
 ghost use Rattle.answer.specs.Said.{says};
 ghost use Rattle.rules.specs.Answers.{stepped};
-ghost use Rattle.ports.specs.Part.{Width, part_of};
+ghost use Rattle.ports.specs.Part.{part_of};
 
-use answer::{Answer, Refusal};
-use rules::{State, Stepped};
+use answer::{Answer, Refusal, Stepped};
+use rules::State;
 
 const ADDRESS: u16 = 0xCF8;
 
@@ -16,6 +16,7 @@ const DATA: u16 = 0xCFC;
 
 // ---- which access
 
+// A width may be any number, and all but three are refused; inside it is a `Part`'s.
 fn bad_width(width: u32) -> bool
     ensures { result ≡ bad_width width }
 {
@@ -101,61 +102,74 @@ fn scale(a: u32) -> u32
     16777216
 }
 
-// The low w bytes.
-fn low(v: u32, w: u32) -> u32
-    requires { Width w }
-    ensures { result ≡ v % 256 ^ w }
-{
-    if w == 1 {
-        return v % 256;
-    }
-    if w == 2 {
-        return v % 65536;
-    }
-    v
+// Which bytes of the dword an access at the data port is for: `width` of them, from byte `first` on.
+#[derive(Clone, Copy)]
+struct Part {
+    first: u32,
+    width: u32,
+    ghost wide: { bad_width width ≡ false },
+    ghost within: { first + width ≤ 4 },
 }
 
-fn place(v: u32, a: u32, w: u32) -> u32
-    requires { Width w × (a + w ≤ 4) }
-    ensures { result ≡ placed v a w }
-{
-    low(v, w) * scale(a)
-}
-
-fn part(d: u32, a: u32, w: u32) -> u32
-    requires { Width w × (a + w ≤ 4) }
-    ensures { result ≡ part_of d a w }
-{
-    low(d / scale(a), w)
-}
-
-// 2 to the a, times w ones.
-fn lanes(a: u32, w: u32) -> u32
-    requires { Width w × (a + w ≤ 4) }
-    ensures { result ≡ port_lanes a w }
-{
-    if w == 4 {
-        return 15;
+impl Part {
+    // As many bytes, the low ones.
+    #[tactic(auto, using(crate::proofs::Widths::wide_4))]
+    fn low(self, v: u32) -> u32
+        ensures { result ≡ v % 256 ^ self.width }
+    {
+        let w = self.width;
+        if w == 1 {
+            return v % 256;
+        }
+        if w == 2 {
+            return v % 65536;
+        }
+        v
     }
-    if w == 2 {
+
+    // The low bytes of v, put there.
+    fn place(self, v: u32) -> u32
+        ensures { result ≡ placed v self.first self.width }
+    {
+        self.low(v) * scale(self.first)
+    }
+
+    // These bytes of d, as a number.
+    fn of(self, d: u32) -> u32
+        ensures { result ≡ part_of d self.first self.width }
+    {
+        self.low(d / scale(self.first))
+    }
+
+    // 2 to the first, times so many ones.
+    fn lanes(self) -> u32
+        ensures { result ≡ port_lanes self.first self.width }
+    {
+        let a = self.first;
+        let w = self.width;
+        if w == 4 {
+            return 15;
+        }
+        if w == 2 {
+            if a == 0 {
+                return 3;
+            }
+            if a == 1 {
+                return 6;
+            }
+            return 12;
+        }
         if a == 0 {
-            return 3;
+            return 1;
         }
         if a == 1 {
-            return 6;
+            return 2;
         }
-        return 12;
+        if a == 2 {
+            return 4;
+        }
+        8
     }
-    if a == 0 {
-        return 1;
-    }
-    if a == 1 {
-        return 2;
-    }
-    if a == 2 {
-        return 4;
-    }
-    8
 }
 
 // The latch that a write of `value` leaves: bits 30:24 and 1:0 are zero.
@@ -167,6 +181,8 @@ fn latched(value: u32) -> u32
 
 // ---- the entries
 
+// Both ask the same four things first. One function for them would answer a part, the latch or a refusal, with a law that brings that to either definition: more text than the tests.
+
 // A read of `width` bytes at `port`.
 #[tactic(auto, using(crate::proofs::Data::data_fits), unfolding(rules::specs::Ports::port_read_of))]
 pub fn port_read(s: State, port: u16, width: u32) -> Answer
@@ -174,37 +190,41 @@ pub fn port_read(s: State, port: u16, width: u32) -> Answer
 {
     let latch = s.latch;
     if bad_width(width) {
-        return Answer::No(Refusal::Width);
+        return Err(Refusal::Width);
     }
     if not_ours(latch, port, width) {
-        return Answer::No(Refusal::NotOurs);
+        return Err(Refusal::NotOurs);
     }
     if at_latch(port, width) {
-        return Answer::Value(latch);
+        return Ok(Some(latch));
     }
     if other_function(latch) {
-        return Answer::No(Refusal::OtherFunction);
+        return Err(Refusal::OtherFunction);
     }
     let t = s;
     let whole = guest_read::dword(&t.bytes, t.flags.busy, (latch / 4 % 64) as u8);
-    Answer::Value(part(whole, (port % 4) as u32, width))
+    let part = Part {
+        first: (port % 4) as u32,
+        width,
+    };
+    Ok(Some(part.of(whole)))
 }
 
 // A write of the low `width` bytes of `value` at `port`.
 #[tactic(auto, using(crate::proofs::Data::data_fits), unfolding(rules::specs::Ports::port_write_of))]
-pub fn port_write(s: State, port: u16, width: u32, value: u32) -> Stepped
+pub fn port_write(s: State, port: u16, width: u32, value: u32) -> Stepped<State>
     ensures { stepped result ≡ port_write_of s port width value }
 {
     let latch = s.latch;
     if bad_width(width) {
         return Stepped {
-            answer: Answer::No(Refusal::Width),
+            answer: Err(Refusal::Width),
             state: s,
         };
     }
     if not_ours(latch, port, width) {
         return Stepped {
-            answer: Answer::No(Refusal::NotOurs),
+            answer: Err(Refusal::NotOurs),
             state: s,
         };
     }
@@ -212,26 +232,24 @@ pub fn port_write(s: State, port: u16, width: u32, value: u32) -> Stepped
         let mut t = s;
         t.latch = latched(value);
         return Stepped {
-            answer: Answer::Done,
+            answer: Ok(None),
             state: t,
         };
     }
     if other_function(latch) {
         return Stepped {
-            answer: Answer::No(Refusal::OtherFunction),
+            answer: Err(Refusal::OtherFunction),
             state: s,
         };
     }
-    let a = (port % 4) as u32;
-    let w = twin::write(
-        s,
-        latch / 4 % 64 * 4,
-        lanes(a, width),
-        place(value, a, width),
-    );
+    let part = Part {
+        first: (port % 4) as u32,
+        width,
+    };
+    let w = twin::write(s, latch / 4 % 64 * 4, part.lanes(), part.place(value));
     let t = w.state;
     Stepped {
-        answer: Answer::Done,
+        answer: Ok(None),
         state: t,
     }
 }

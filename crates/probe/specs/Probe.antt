@@ -1,11 +1,11 @@
 -- The size probe ('Claims, probe, walk').
-use Rattle.std.specs.Prelude.{ℕ, ◌+◌, ◌*◌, ◌/◌, ◌^◌}
+use Rattle.std.specs.Prelude.{Option, None, Some, ℕ, ◌+◌, ◌*◌, ◌/◌, ◌^◌}
 use Rattle.std.specs.Int.Count.{count_trailing_zeros}
 use Rattle.bits.specs.Bits.{bit, field}
 use Rattle.bits.specs.Choice.{when◌then◌else◌, ◌is◌}
 use Rattle.answer.specs.Refusals.{NO_RANGE}
-use Rattle.probe.specs.declared.Probed.{Probed}
-use Rattle.probe.specs.declared.Probed.TheVariants.{Io, Memory32, Memory64, NoRange}
+use Rattle.probe.specs.declared.Range.{Range}
+use Rattle.probe.specs.declared.Range.TheVariants.{Io, Memory32, Memory64}
 
 -- ---- what a probe gives
 
@@ -24,11 +24,11 @@ abbrev pub refused : Reply
 refused = record { number = NO_RANGE; kind = none; exponent = 0 }
 
 -- the paper's number and values of each answer
-abbrev pub probe_says : Probed → Reply
-probe_says (Io e) = range io e
-probe_says (Memory32 e) = range memory32 e
-probe_says (Memory64 e) = range memory64 e
-probe_says NoRange = refused
+abbrev pub probe_says : Option Range → Reply
+probe_says (Some (Io e)) = range io e
+probe_says (Some (Memory32 e)) = range memory32 e
+probe_says (Some (Memory64 e)) = range memory64 e
+probe_says None = refused
 
 -- ---- the rule
 

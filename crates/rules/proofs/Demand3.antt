@@ -24,7 +24,7 @@ use Rattle.rules.specs.Guest.{written_of, step_of, write_of}
 use Rattle.rules.specs.Device.{pointer}
 use Rattle.rules.specs.Read.{shown_bit, read_bit, read_value, read_of}
 use Rattle.rules.specs.Host.{not_host, host_step_of, host_of}
-use Rattle.rules.specs.Reset.{ended_bit, ended_of, end_of}
+use Rattle.rules.specs.Reset.{ended_of, end_of}
 use Rattle.rules.specs.Ports.{bad_width, not_ours, at_latch, other_function, here, latched, port_lanes, port_value, port_read_of, port_write_of}
 use Rattle.rules.specs.Window.{bad_window, window_read_of, window_write_of, beyond, request_mask, complete_of, fault_mask, fault_of, mirror_mask, mirror_update_of}
 use Rattle.rules.specs.declared.WindowEvent.TheVariants.{WindowRead, WindowWrite, Complete, Fault, AddCycles, MirrorUpdate}

@@ -18,7 +18,7 @@ use Rattle.rules.specs.Access.{byte, busy, done, refused}
 use Rattle.rules.specs.Device.{pointer, built_in, core}
 use Rattle.rules.specs.Guest.{bit_after, written_of, step_of, write_of}
 use Rattle.rules.specs.Reset.{ended_bit, ended_of, end_of}
-use Rattle.rules.specs.Read.{shown_bit, read_bit, read_value}
+use Rattle.rules.specs.Read.{read_bit, read_value}
 use Rattle.rules.specs.Host.{not_host, host_bit, host_step_of, host_of}
 
 -- an accepted guest write

@@ -1,9 +1,7 @@
-// The twin's state, what can happen to it, and what an entry gives. What each event does is in specs/; this crate has no code.
+// The twin's state, and what can happen to it. What each event does is in specs/; this crate has no code.
 #![tactic(auto)]
 
-use answer::Answer;
-
-// The write-once fields: 0 open, any other number closed. Busy: 0 where no function reset is under way, any other number where one is.
+// Numbers, and no bools, since the record is lent from C. The write-once fields: 0 open, any other number closed. Busy: 0 where no function reset is under way, any other number where one is.
 #[repr(C)]
 #[derive(Clone, Copy)]
 pub struct Flags {
@@ -35,20 +33,12 @@ pub struct State {
     pub window: Mapped,
 }
 
-// What is answered, and the state afterwards.
-#[derive(Clone, Copy)]
-pub struct Stepped {
-    pub answer: Answer,
-    pub state: State,
-}
-
-// The window that claims an address, with the offset inside, or none.
-#[derive(Clone, Copy)]
+// The window that claims an address, with the offset inside.
+#[derive(Clone, Copy, Debug, PartialEq, Eq)]
 pub enum Claim {
     Translation(u32),
     Aperture(u32),
     Io(u32),
-    None,
 }
 
 // What can happen in the window: a guest's read (offset, lanes) and write (offset, lanes, value); the host completes requests (mask), gives a fault word, adds a count to the cycles, and updates a mirror (offset, mask, value).

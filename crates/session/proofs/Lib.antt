@@ -1,3 +1,2 @@
 pub mod Text
 pub mod Blocks
-pub mod Turns

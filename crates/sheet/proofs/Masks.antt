@@ -4,7 +4,7 @@ use mathlib.Core.Bool.{Bool, true, false, not}
 use Prim.Native.Nat.{ℕ}
 use lib.Dec.{eqb}
 use Rattle.bits.specs.Bits.{bit, blend_k}
-use Rattle.bits.specs.Choice.{pick, both, any_below}
+use Rattle.bits.specs.Choice.{pick, both}
 use Rattle.bits.proofs.Laws.{bit_zero, some_blended, some_outside}
 use Rattle.bits.proofs.Below.{any_ext}
 use Rattle.sheet.specs.Sheet.{shares, strays}

@@ -1,183 +1,105 @@
 // A register sheet checked, by a reader that holds it.
 #![tactic(auto)]
 
-ghost use Rattle.std.specs.Prelude.{◌≡◌, Bool, ◌<◌, ◌≤◌, length};
+ghost use Rattle.std.specs.Prelude.{◌≡◌, ◌<◌, ◌≤◌, length, Ok};
 ghost use Rattle.sheet.specs.Sheet.{entries, contents, belongs};
 ghost use Rattle.sheet.specs.Reads.{body_at};
-ghost use Rattle.sheet_rules.specs.Check.{sheet_no, accepts, entry_of, named, first_of, check_of};
-ghost use Rattle.sheet_rules.specs.Walked.{judged, end_of, long_of};
+ghost use Rattle.sheet_rules.specs.Check.{sheet_no, ◌and_then◌, placed, entry_of, named, first_of, check_of};
 
 use answer::Refusal;
-use sheet::{Body, Entry};
-use sheet_rules::SheetAnswer;
+use sheet::{BodyFault, Entry};
+use sheet_rules::SheetFault;
 
 // The refusal's number, 0 where the sheet is good.
-pub fn number(a: SheetAnswer) -> u32
+pub fn number(a: Result<(), SheetFault>) -> u32
     ensures { result ≡ sheet_no a }
 {
     match a {
-        SheetAnswer::Good => 0,
-        SheetAnswer::Empty => answer::number(Refusal::SheetLength),
-        SheetAnswer::Count => answer::number(Refusal::SheetContents),
-        SheetAnswer::Cut => answer::number(Refusal::SheetLength),
-        SheetAnswer::Length(_) => answer::number(Refusal::SheetContents),
-        SheetAnswer::Order(_) => answer::number(Refusal::SheetContents),
-        SheetAnswer::Past(_) => answer::number(Refusal::SheetContents),
-        SheetAnswer::Start(_) => answer::number(Refusal::SheetContents),
-        SheetAnswer::Total => answer::number(Refusal::SheetLength),
-        SheetAnswer::Shared(_) => answer::number(Refusal::SheetBody),
-        SheetAnswer::Outside(_) => answer::number(Refusal::SheetBody),
+        Ok(()) => 0,
+        Err(fault) => answer::number(Refusal::from(fault)),
     }
-}
-
-// Whether the sheet is good.
-pub fn good(a: SheetAnswer) -> bool
-    ensures { result ≡ accepts a }
-{
-    number(a) == 0
 }
 
 // ---- the contents
 
 // Entry `k`, where the register before it ends at `end` and its body belongs at `place`.
-fn judge(e: Entry, k: usize, end: usize, place: usize) -> SheetAnswer
-    ensures { result ≡ judged e k end place }
+#[tactic(auto, unfolding(sheet_rules::specs::Check::placed))]
+fn judge(e: Entry, k: usize, end: usize, place: usize) -> Result<(), SheetFault>
+    ensures { result ≡ placed k end place e.offset e.length e.start }
 {
-    match e {
-        Entry::Listed(o, l, a) => {
-            let offset = o as usize;
-            let long = l as usize;
-            let start = a as usize;
-            if long < 1 {
-                return SheetAnswer::Length(k);
-            }
-            if 8 < long {
-                return SheetAnswer::Length(k);
-            }
-            if offset < end {
-                return SheetAnswer::Order(k);
-            }
-            if 256 < offset + long {
-                return SheetAnswer::Past(k);
-            }
-            if start != place {
-                return SheetAnswer::Start(k);
-            }
-            SheetAnswer::Good
-        }
-        Entry::End => SheetAnswer::Cut,
+    if e.length < 1 || 8 < e.length {
+        return Err(SheetFault::Length(k));
     }
-}
-
-// Where an entry's register ends.
-fn end_of(e: Entry) -> usize
-    ensures { result ≡ end_of e }
-{
-    match e {
-        Entry::Listed(o, l, _) => (o as usize) + (l as usize),
-        Entry::End => 0,
+    if (e.offset as usize) < end {
+        return Err(SheetFault::Order(k));
     }
-}
-
-// How long an entry's body is.
-fn long_of(e: Entry) -> usize
-    ensures { (result ≡ long_of e) × (result ≤ 1020) }
-{
-    match e {
-        Entry::Listed(_, l, _) => 4 * (l as usize),
-        Entry::End => 0,
+    if 256 < e.end() {
+        return Err(SheetFault::Past(k));
     }
-}
-
-#[derive(Clone, Copy)]
-struct Walked {
-    answer: SheetAnswer,
-    place: usize,
+    if e.start as usize != place {
+        return Err(SheetFault::Start(k));
+    }
+    Ok(())
 }
 
 // The entries in order; behind the last, where the bodies end.
-fn walk_entries(s: &[u8], n: usize) -> Walked
+fn walk_entries(s: &[u8], n: usize) -> Result<usize, SheetFault>
     requires { (n ≡ entries s.now) × (n < 256) × (contents s.now ≤ length s.now) }
-    ensures answer_value { result.answer ≡ first_of (entry_of s.now) n }
-    ensures place_value { accepts result.answer ≡ Bool.true → result.place ≡ belongs s.now n }
+    ensures { result ≡ (first_of (entry_of s.now) n and_then Ok (belongs s.now n)) }
 {
-    let mut k: usize = 0;
-    let mut end: usize = 0;
-    let mut place: usize = 4 * n + 1;
-    while k < n {
-        let e = sheet_reader::entry_of(s, k);
-        let a = judge(e, k, end, place);
-        if good(a) {
-            end = end_of(e);
-            place = place + long_of(e);
-            k += 1;
-        } else {
-            return Walked {
-                answer: a,
-                place: 0,
-            };
-        }
+    let mut end = 0;
+    let mut place = 4 * n + 1;
+    for k in 0..n {
+        let e = sheet_reader::entry_of(s, k).ok_or(SheetFault::Cut)?;
+        judge(e, k, end, place)?;
+        end = e.end();
+        place += e.body_length();
     }
-    Walked {
-        answer: SheetAnswer::Good,
-        place,
-    }
+    Ok(place)
 }
 
 // ---- the bodies
 
-fn name(b: Body, k: usize) -> SheetAnswer
+// What is wrong with the body of entry `k`, as what is wrong with the sheet.
+fn name(b: Result<(), BodyFault>, k: usize) -> Result<(), SheetFault>
     ensures { result ≡ named k b }
 {
-    match b {
-        Body::Good => SheetAnswer::Good,
-        Body::Shared => SheetAnswer::Shared(k),
-        Body::Outside => SheetAnswer::Outside(k),
-        Body::Missing => SheetAnswer::Total,
-    }
+    b.map_err(|fault| match fault {
+        BodyFault::Shared => SheetFault::Shared(k),
+        BodyFault::Outside => SheetFault::Outside(k),
+        BodyFault::Missing => SheetFault::Total,
+    })
 }
 
-fn walk_bodies(s: &[u8], n: usize) -> SheetAnswer
+// The bodies in order.
+fn walk_bodies(s: &[u8], n: usize) -> Result<(), SheetFault>
     ensures { result ≡ first_of (λ k. named k (body_at s.now k)) n }
 {
-    let mut k: usize = 0;
-    while k < n {
-        let a = name(sheet_reader::body_of(s, k), k);
-        if good(a) {
-            k += 1;
-        } else {
-            return a;
-        }
+    for k in 0..n {
+        name(sheet_reader::body_of(s, k), k)?;
     }
-    SheetAnswer::Good
+    Ok(())
 }
 
 // ---- the sheet
 
 // Whether a slice of any bytes is a sheet, and what is wrong with it first.
-pub fn check(s: &[u8]) -> SheetAnswer
+pub fn check(s: &[u8]) -> Result<(), SheetFault>
     ensures { result ≡ check_of s.now }
 {
-    if s.len() == 0 {
-        return SheetAnswer::Empty;
+    if s.is_empty() {
+        return Err(SheetFault::Empty);
     }
     let n = sheet::count(s);
-    if n < 1 {
-        return SheetAnswer::Count;
-    }
-    if 64 < n {
-        return SheetAnswer::Count;
+    if n < 1 || 64 < n {
+        return Err(SheetFault::Count);
     }
     if s.len() < 4 * n + 1 {
-        return SheetAnswer::Cut;
+        return Err(SheetFault::Cut);
     }
-    let w = walk_entries(s, n);
-    let a = w.answer;
-    if good(a) {
-        if s.len() != w.place {
-            return SheetAnswer::Total;
-        }
-        return walk_bodies(s, n);
+    let end = walk_entries(s, n)?;
+    if s.len() != end {
+        return Err(SheetFault::Total);
     }
-    a
+    walk_bodies(s, n)
 }

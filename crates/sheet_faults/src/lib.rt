@@ -1,84 +1,97 @@
 // What is wrong with a register sheet, in a sentence on standard error.
 #![tactic(auto)]
 
-use sheet_rules::SheetAnswer;
-use sheet_say::{complain_entry, complain_length, complain_start, say, say_number};
+use sheet_rules::SheetFault;
+use sheet_say::Named;
+use std::fmt;
 
 // The longest sheet: 4 * 64 + 1 bytes of contents, and 4 * 256 of bodies.
 pub const LONGEST: usize = 1281;
 
-// What is wrong with the whole sheet.
-fn complain_whole<R: Eprint>(rt: &R, what: &[u8], n: u64, more: &[u8]) {
-    say(rt, what);
-    say_number(rt, n);
-    say(rt, more);
+// A sheet and what is wrong with it, which is written as a sentence.
+#[derive(Clone, Copy)]
+struct Complaint<'a> {
+    sheet: &'a [u8],
+    fault: SheetFault,
 }
 
-// The number of entries.
-fn complain_count<R: Eprint>(rt: &R, s: &[u8]) {
-    complain_whole(
-        rt,
-        b"byte 0 says ",
-        sheet::byte_at(s, 0) as u64,
-        b" entries, and a sheet has 1 to 64\n",
-    );
-}
-
-// The contents.
-fn complain_cut<R: Eprint>(rt: &R, s: &[u8]) {
-    complain_whole(
-        rt,
-        b"the contents are cut short: the sheet has ",
-        s.len() as u64,
-        b" bytes\n",
-    );
-}
-
-// A sheet of `n` bytes does not end with its last body. How long a file is that is longer than any sheet is not known: no more of it is read.
-fn complain_total<R: Eprint>(rt: &R, n: usize) {
-    if LONGEST < n {
-        say(
-            rt,
-            b"the file is longer than the longest sheet, 1281 bytes\n",
-        );
-        return;
+impl<'a> Complaint<'a> {
+    fn entry(&self, k: usize) -> Named<'a> {
+        Named {
+            sheet: self.sheet,
+            k,
+        }
     }
-    complain_whole(
-        rt,
-        b"the sheet has ",
-        n as u64,
-        b" bytes, and its last body does not end there\n",
-    );
 }
 
-// What is wrong with a sheet, in one line.
-pub fn complain<R: Eprint>(rt: &R, s: &[u8], a: SheetAnswer) {
-    match a {
-        SheetAnswer::Good => say(rt, b""),
-        SheetAnswer::Empty => say(rt, b"the sheet is empty\n"),
-        SheetAnswer::Count => complain_count(rt, s),
-        SheetAnswer::Cut => complain_cut(rt, s),
-        SheetAnswer::Length(k) => complain_length(rt, s, k),
-        SheetAnswer::Order(k) => complain_entry(
-            rt,
-            s,
-            k,
-            b"its register starts before that of the entry before it ends\n",
-        ),
-        SheetAnswer::Past(k) => complain_entry(rt, s, k, b"its register passes byte FF\n"),
-        SheetAnswer::Start(k) => complain_start(rt, s, k),
-        SheetAnswer::Total => complain_total(rt, s.len()),
-        SheetAnswer::Shared(k) => complain_entry(
-            rt,
-            s,
-            k,
-            b"its guest and host masks share a bit\n",
-        ),
-        SheetAnswer::Outside(k) => complain_entry(
-            rt,
-            s,
-            k,
-            b"its reset mask has a bit outside its guest mask\n",
-        ),
+impl fmt::Display for Complaint<'_> {
+    fn fmt<W: fmt::Write>(&self, f: &mut fmt::Formatter<W>) -> fmt::Result {
+        let length = self.sheet.len();
+        match self.fault {
+            SheetFault::Empty => write!(f, "the sheet is empty"),
+            SheetFault::Count => {
+                let n = sheet::count(self.sheet);
+                write!(f, "byte 0 says {n} entries, and a sheet has 1 to 64")
+            }
+            SheetFault::Cut => {
+                write!(
+                    f,
+                    "the contents are cut short: the sheet has {length} bytes"
+                )
+            }
+            SheetFault::Length(k) => {
+                let entry = self.entry(k);
+                let n = entry.length();
+                write!(
+                    f,
+                    "{entry}: its length is {n}, and a register has 1 to 8 bytes"
+                )
+            }
+            SheetFault::Order(k) => {
+                let entry = self.entry(k);
+                write!(
+                    f,
+                    "{entry}: its register starts before that of the entry before it ends"
+                )
+            }
+            SheetFault::Past(k) => write!(f, "{}: its register passes byte FF", self.entry(k)),
+            SheetFault::Start(k) => {
+                let entry = self.entry(k);
+                let n = entry.start();
+                write!(
+                    f,
+                    "{entry}: its body starts at byte {n}, not where the contents or the body before it end",
+                )
+            }
+            // How long a file is that is longer than any sheet is not known: no more of it is read.
+            SheetFault::Total if LONGEST < length => {
+                write!(
+                    f,
+                    "the file is longer than the longest sheet, {LONGEST} bytes"
+                )
+            }
+            SheetFault::Total => {
+                write!(
+                    f,
+                    "the sheet has {length} bytes, and its last body does not end there"
+                )
+            }
+            SheetFault::Shared(k) => {
+                write!(f, "{}: its guest and host masks share a bit", self.entry(k))
+            }
+            SheetFault::Outside(k) => {
+                let entry = self.entry(k);
+                write!(
+                    f,
+                    "{entry}: its reset mask has a bit outside its guest mask"
+                )
+            }
+        }
     }
+}
+
+// What is wrong with a sheet, in one line. What cannot be said is let go.
+pub fn complain<R: Eprint>(rt: &R, s: &[u8], fault: SheetFault) {
+    let complaint = Complaint { sheet: s, fault };
+    eprintln!(rt; "{complaint}").is_ok();
 }

@@ -1,84 +1,53 @@
 // The tables of the device that a register sheet describes, by a reader that holds it.
 #![tactic(auto)]
 
-ghost use Rattle.std.specs.Prelude.{◌≡◌, ◌<◌, ◌≤◌, length};
+ghost use Rattle.std.specs.Prelude.{◌≡◌, ◌+◌, ◌-◌, ◌*◌, ◌<◌, ◌≤◌, length};
 ghost use Rattle.bits.specs.Places.{bytes};
 ghost use Rattle.sheet.specs.Sheet.{entries, contents};
+ghost use Rattle.sheet.specs.Reads.{part_no};
 ghost use Rattle.sheet_rules.specs.Check.{check_of};
 ghost use Rattle.sheet_rules.specs.Tables.{raw_in, tables_of};
-ghost use Rattle.sheet_rules.specs.Walked.{has_in, place_in};
 
 use plain_device::Tables;
-use sheet::Entry;
-use sheet_rules::SheetAnswer;
+use sheet::{Entry, Part};
+use sheet_rules::SheetFault;
+use std::array;
 
-// Whether an entry has byte `i` of the device.
-fn has(e: Entry, i: usize) -> bool
-    ensures { result ≡ has_in e i }
+// Where byte `i` of a part stands in the sheet.
+fn place(e: Entry, part: Part, i: usize) -> usize
+    requires { i < 256 }
+    ensures { result ≡ e.start + part_no part * e.length + (i - e.offset) }
 {
-    match e {
-        Entry::Listed(o, l, _) => {
-            let offset = o as usize;
-            let end = offset + (l as usize);
-            if i < offset {
-                return false;
-            }
-            i < end
-        }
-        Entry::End => false,
-    }
+    e.start as usize + part.number() * e.length as usize + i.saturating_sub(e.offset as usize)
 }
 
-// Where byte `i` of part `p` stands in the sheet.
-fn place(e: Entry, p: usize, i: usize) -> usize
-    requires { (p < 4) × (i < 256) }
-    ensures { result ≡ place_in e p i }
+// Byte `i` of a part, 0 where no entry has it.
+fn cell(s: &[u8], part: Part, i: usize) -> u8
+    requires { (i < 256) × (contents s.now ≤ length s.now) }
+    ensures { result ≡ raw_in s.now (part_no part) i (entries s.now) }
 {
-    match e {
-        Entry::Listed(o, l, a) => {
-            let offset = o as usize;
-            let start = (a as usize) + p * (l as usize);
-            if i < offset {
-                return start;
-            }
-            start + (i - offset)
-        }
-        Entry::End => 0,
-    }
-}
-
-// Byte `i` of part `p`, 0 where no entry has it.
-fn cell(s: &[u8], p: usize, i: usize) -> u8
-    requires { (p < 4) × (i < 256) × (contents s.now ≤ length s.now) }
-    ensures { result ≡ raw_in s.now p i (entries s.now) }
-{
-    let mut k = sheet::count(s);
-    while 0 < k {
-        k -= 1;
-        let e = sheet_reader::entry_of(s, k);
-        if has(e, i) {
-            return sheet::byte_at(s, place(e, p, i));
+    for k in (0..sheet::count(s)).rev() {
+        let Some(e) = sheet_reader::entry_of(s, k) else {
+            continue;
+        };
+        if e.holds(i) {
+            return sheet::byte_at(s, place(e, part, i));
         }
     }
     0
 }
 
-fn table(s: &[u8], p: usize) -> [u8; 256]
-    requires { (p < 4) × (contents s.now ≤ length s.now) }
-    ensures { result ≡ bytes (λ i. raw_in s.now p i (entries s.now)) }
+fn table(s: &[u8], part: Part) -> [u8; 256]
+    requires { contents s.now ≤ length s.now }
+    ensures { result ≡ bytes (λ i. raw_in s.now (part_no part) i (entries s.now)) }
 {
-    let mut t = [0u8; 256];
-    let mut i: usize = 0;
-    while i < 256 {
-        t[i] = cell(s, p, i);
-        i += 1;
-    }
-    t
+    array::from_fn(|i| cell(s, part, i))
 }
 
+// A record, and no Result: a refused sheet's tables are promised too.
 #[derive(Clone, Copy)]
 pub struct Loaded {
-    pub answer: SheetAnswer,
+    pub answer: Result<(), SheetFault>,
     pub tables: Tables,
 }
 
@@ -86,26 +55,21 @@ pub struct Loaded {
 pub fn load(s: &[u8]) -> Loaded
     ensures { (result.answer ≡ check_of s.now) × (result.tables ≡ tables_of s.now) }
 {
-    let a = sheet_check::check(s);
-    if sheet_check::good(a) {
-        let defaults = table(s, sheet::DEFAULT);
-        let guests = table(s, sheet::GUEST);
-        let hosts = table(s, sheet::HOST);
-        let resets = table(s, sheet::RESET);
-        let tables = Tables {
-            defaults,
-            guests,
-            hosts,
-            resets,
-        };
-        return Loaded { answer: a, tables };
-    }
-    let none = [0u8; 256];
-    let tables = Tables {
-        defaults: none,
-        guests: none,
-        hosts: none,
-        resets: none,
+    let answer = sheet_check::check(s);
+    let tables = if answer.is_ok() {
+        Tables {
+            defaults: table(s, Part::Default),
+            guests: table(s, Part::Guest),
+            hosts: table(s, Part::Host),
+            resets: table(s, Part::Reset),
+        }
+    } else {
+        Tables {
+            defaults: [0; 256],
+            guests: [0; 256],
+            hosts: [0; 256],
+            resets: [0; 256],
+        }
     };
-    Loaded { answer: a, tables }
+    Loaded { answer, tables }
 }

@@ -1,18 +1,17 @@
 -- The tables of a well-formed sheet: each byte is where the code finds it, the reset masks lie inside the guest masks, and a byte that no entry has is 0.
-use mathlib.Core.Path.{◌≡◌, refl, sym, ap, subst, ◌∙◌}
+use mathlib.Core.Path.{◌≡◌, refl, sym, subst, ◌∙◌}
 use mathlib.Core.List.{List}
 use mathlib.Core.Bool.{Bool, true, false, not}
 use Prim.Native.Nat.{ℕ, zero, suc, ◌+◌, ◌-◌, ◌*◌, ◌/◌, ◌^◌, ◌<◌, ◌≤◌}
 use native.Mathlib.Omega.{arith}
-use lib.Dec.{T, eqb, leb, ltb, leb→le, ltb→lt, eqb→eq}
+use lib.Dec.{T, eqb, leb, leb→le, ltb→lt, eqb→eq}
 use native.Mathlib.Decide.{dec_lt}
 use lib.ListN.{length, get_or, take, drop, length-drop, length-take, get_or-eq_default}
 use lib.Seq.{length-take-le, get_or-take, get_or-drop}
-use Rattle.bits.specs.Bits.{bit}
 use Rattle.bits.specs.Choice.{pick, both, all_below}
 use Rattle.bits.specs.Places.{bytes}
 use Rattle.bits.proofs.Below.{both_left, both_right, below, is_true, is_false, pick_has}
-use Rattle.bits.proofs.Places.{get_or_bytes, bytes_ext}
+use Rattle.bits.proofs.Places.{bytes_ext}
 use Rattle.sheet.specs.Sheet.{at, entries, contents, offset_of, length_of, start_of, belongs, body_of, part_of, GUEST, HOST, RESET, shares, strays, good_count, good_entry, good_body, good_sheet}
 use Rattle.sheet.proofs.Parts.{in_body}
 use Rattle.sheet_rules.specs.Tables.{has, cell_in, table_of, raw_in}

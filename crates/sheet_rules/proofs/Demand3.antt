@@ -5,6 +5,7 @@ use mathlib.Core.Bool.{Bool, true, false, not}
 use Prim.Native.Nat.{ℕ, ◌+◌, ◌<◌}
 use native.Mathlib.Omega.{arith}
 use lib.Dec.{eqb}
+use Rattle.std.specs.Prelude.{is_ok}
 use lib.ListN.{get_or}
 use Rattle.bits.specs.Bits.{bit, byte_of}
 use Rattle.bits.specs.Choice.{pick, both}
@@ -17,12 +18,11 @@ use Rattle.access.specs.Access.{bad_offset, bad_lanes, byte_for}
 use Rattle.plain.specs.Plain.{held, under, shown_value}
 use Rattle.access.proofs.Access.{good_offset}
 use Rattle.rules.proofs.Lanes.{in_lanes}
-use Rattle.plain_device.specs.declared.Tables.{Tables}
 use Rattle.plain_device.specs.Device.{read_of}
 use Rattle.plain_device.specs.ReadOnly.{Inside, run}
 use Rattle.plain_device.proofs.ReadOnly as D
 use Rattle.sheet.specs.Sheet.{entries, DEFAULT, GUEST, HOST, RESET, good_sheet}
-use Rattle.sheet_rules.specs.Check.{accepts, check_of}
+use Rattle.sheet_rules.specs.Check.{check_of}
 use Rattle.sheet_rules.specs.Tables.{cell_in, table_of, tables, tables_of}
 use Rattle.sheet_rules.specs.Demand3.{ReadOnly, Unlisted, UnlistedRead}
 use Rattle.sheet_rules.proofs.Checked.{check_good}
@@ -45,16 +45,16 @@ good_inside s g i j h k n =
 -- a sheet that is refused gives zeros, which lie inside one another
 pub inside : (s : List ℕ) → Inside (tables_of s)
 unfolding tables_of
-inside s i j h k n = go (accepts (check_of s)) refl n
+inside s i j h k n = go (is_ok (check_of s)) refl n
   where
-    go : (b : Bool) → accepts (check_of s) ≡ b → under (pick b (tables (table_of s)) (tables (λ (p : ℕ). bytes (λ (i : ℕ). 0)))).guests i j ≡ false → under (pick b (tables (table_of s)) (tables (λ (p : ℕ). bytes (λ (i : ℕ). 0)))).resets i j ≡ false
+    go : (b : Bool) → is_ok (check_of s) ≡ b → under (pick b (tables (table_of s)) (tables (λ (p : ℕ). bytes (λ (i : ℕ). 0)))).guests i j ≡ false → under (pick b (tables (table_of s)) (tables (λ (p : ℕ). bytes (λ (i : ℕ). 0)))).resets i j ≡ false
     go true e n = good_inside s (sym (check_good s) ∙ e) i j h k n
     go false e n = zero_at i j h
 
 pub read_only_lem : ReadOnly
 read_only_lem s = D.read_only_lem (tables_of s) (inside s)
 
-good_tables : (s : List ℕ) → accepts (check_of s) ≡ true → tables_of s ≡ tables (table_of s)
+good_tables : (s : List ℕ) → is_ok (check_of s) ≡ true → tables_of s ≡ tables (table_of s)
 unfolding tables_of
 good_tables s e = rw e
 

@@ -1,5 +1,4 @@
 pub mod Check
-pub mod Walked
 pub mod Tables
 pub mod Demand3
 pub mod Rows

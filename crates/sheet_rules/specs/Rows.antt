@@ -1,9 +1,8 @@
 -- W-201 by examples: sheets, what the request says of each, and its number; one table. And the bytes of a good sheet's tables.
-use Rattle.std.specs.Prelude.{◌≡◌, List, [], ◌∷◌, ◌++◌, ℕ, zero, suc, ◌+◌, ◌*◌, ◌/◌, ◌%◌, get_or, take}
+use Rattle.std.specs.Prelude.{◌≡◌, List, [], ◌∷◌, ◌++◌, ℕ, zero, suc, ◌+◌, ◌*◌, ◌/◌, ◌%◌, get_or, take, Ok, Err}
 use Rattle.bits.specs.Places.{from}
-use Rattle.sheet_rules.specs.declared.SheetAnswer.{SheetAnswer}
-use Rattle.sheet_rules.specs.declared.SheetAnswer.TheVariants.{Good, Empty, Count, Cut, Length, Order, Past, Start, Total, Shared, Outside}
-use Rattle.sheet_rules.specs.Check.{sheet_no, check_of}
+use Rattle.sheet_rules.specs.declared.SheetFault.TheVariants.{Empty, Count, Cut, Length, Order, Past, Start, Total, Shared, Outside}
+use Rattle.sheet_rules.specs.Check.{SheetAnswer, sheet_no, check_of}
 use Rattle.sheet_rules.specs.Tables.{tables_of}
 
 -- ---- how a row is written
@@ -53,45 +52,45 @@ good = two (entry 0x10 2 9 0) (entry 0xFC 4 17 0)
 
 unfoldable pub rows : List Row
 rows =
-    good is Good numbered 0 ∷
+    good is Ok tt numbered 0 ∷
     -- one register right behind the other
-    two (entry 0x10 2 9 0) (entry 0x12 4 17 0) is Good numbered 0 ∷
-    many 64 is Good numbered 0 ∷
+    two (entry 0x10 2 9 0) (entry 0x12 4 17 0) is Ok tt numbered 0 ∷
+    many 64 is Ok tt numbered 0 ∷
     -- empty
-    [] is Empty numbered 12 ∷
+    [] is Err Empty numbered 12 ∷
     -- n
-    (0 ∷ []) is Count numbered 13 ∷
-    many 65 is Count numbered 13 ∷
+    (0 ∷ []) is Err Count numbered 13 ∷
+    many 65 is Err Count numbered 13 ∷
     -- contents cut short
-    (1 ∷ 0x10 ∷ 1 ∷ 5 ∷ []) is Cut numbered 12 ∷
+    (1 ∷ 0x10 ∷ 1 ∷ 5 ∷ []) is Err Cut numbered 12 ∷
     -- entries: a length of 0 and of 9, an overlap by one byte, out of order, past byte FF, a body with a gap before it, in the one before, and with the high byte first
-    two (entry 0x10 0 9 0) (entry 0xFC 4 17 0) is Length 0 numbered 13 ∷
-    two (entry 0x10 2 9 0) (entry 0x20 9 17 0) is Length 1 numbered 13 ∷
-    two (entry 0x10 2 9 0) (entry 0x11 4 17 0) is Order 1 numbered 13 ∷
-    two (entry 0x10 2 9 0) (entry 0x04 4 17 0) is Order 1 numbered 13 ∷
-    two (entry 0x10 2 9 0) (entry 0xFD 4 17 0) is Past 1 numbered 13 ∷
-    two (entry 0x10 2 9 0) (entry 0xFC 4 18 0) is Start 1 numbered 13 ∷
-    two (entry 0x10 2 9 0) (entry 0xFC 4 9 0) is Start 1 numbered 13 ∷
-    two (entry 0x10 2 0 9) (entry 0xFC 4 17 0) is Start 0 numbered 13 ∷
+    two (entry 0x10 0 9 0) (entry 0xFC 4 17 0) is Err (Length 0) numbered 13 ∷
+    two (entry 0x10 2 9 0) (entry 0x20 9 17 0) is Err (Length 1) numbered 13 ∷
+    two (entry 0x10 2 9 0) (entry 0x11 4 17 0) is Err (Order 1) numbered 13 ∷
+    two (entry 0x10 2 9 0) (entry 0x04 4 17 0) is Err (Order 1) numbered 13 ∷
+    two (entry 0x10 2 9 0) (entry 0xFD 4 17 0) is Err (Past 1) numbered 13 ∷
+    two (entry 0x10 2 9 0) (entry 0xFC 4 18 0) is Err (Start 1) numbered 13 ∷
+    two (entry 0x10 2 9 0) (entry 0xFC 4 9 0) is Err (Start 1) numbered 13 ∷
+    two (entry 0x10 2 0 9) (entry 0xFC 4 17 0) is Err (Start 0) numbered 13 ∷
     -- total length: a byte more, a byte less
-    (good ++ (0 ∷ [])) is Total numbered 12 ∷
-    take 32 good is Total numbered 12 ∷
+    (good ++ (0 ∷ [])) is Err Total numbered 12 ∷
+    take 32 good is Err Total numbered 12 ∷
     -- masks: guest and host share a bit, a reset mask outside the guest mask; a shared bit in a second body's last byte
-    one (0x00 ∷ 0x0F ∷ 0x18 ∷ 0x00 ∷ []) is Shared 0 numbered 14 ∷
-    one (0x00 ∷ 0x0F ∷ 0x10 ∷ 0x18 ∷ []) is Outside 0 numbered 14 ∷
-    (take 28 good ++ (0x80 ∷ 0x10 ∷ 0x00 ∷ 0x08 ∷ 0xFF ∷ [])) is Shared 1 numbered 14 ∷
+    one (0x00 ∷ 0x0F ∷ 0x18 ∷ 0x00 ∷ []) is Err (Shared 0) numbered 14 ∷
+    one (0x00 ∷ 0x0F ∷ 0x10 ∷ 0x18 ∷ []) is Err (Outside 0) numbered 14 ∷
+    (take 28 good ++ (0x80 ∷ 0x10 ∷ 0x00 ∷ 0x08 ∷ 0xFF ∷ [])) is Err (Shared 1) numbered 14 ∷
     -- two faults: n before cut short, cut short before entries, entries before total length, total length before masks
-    (65 ∷ []) is Count numbered 13 ∷
-    (2 ∷ entry 0x10 9 9 0) is Cut numbered 12 ∷
-    (two (entry 0x10 2 9 0) (entry 0xFD 4 17 0) ++ (0 ∷ [])) is Past 1 numbered 13 ∷
-    one (0x00 ∷ 0x0F ∷ 0x18 ∷ 0x00 ∷ 0x00 ∷ []) is Total numbered 12 ∷
+    (65 ∷ []) is Err Count numbered 13 ∷
+    (2 ∷ entry 0x10 9 9 0) is Err Cut numbered 12 ∷
+    (two (entry 0x10 2 9 0) (entry 0xFD 4 17 0) ++ (0 ∷ [])) is Err (Past 1) numbered 13 ∷
+    one (0x00 ∷ 0x0F ∷ 0x18 ∷ 0x00 ∷ 0x00 ∷ []) is Err Total numbered 12 ∷
     -- in an entry: its length, its place behind the one before, byte FF, its body's start; the first entry that is wrong
-    two (entry 0x10 2 9 0) (entry 0x04 9 17 0) is Length 1 numbered 13 ∷
-    two (entry 0xFC 2 9 0) (entry 0xFD 4 17 0) is Order 1 numbered 13 ∷
-    two (entry 0x10 2 9 0) (entry 0xFD 4 18 0) is Past 1 numbered 13 ∷
-    two (entry 0x10 2 8 0) (entry 0xFC 9 17 0) is Start 0 numbered 13 ∷
+    two (entry 0x10 2 9 0) (entry 0x04 9 17 0) is Err (Length 1) numbered 13 ∷
+    two (entry 0xFC 2 9 0) (entry 0xFD 4 17 0) is Err (Order 1) numbered 13 ∷
+    two (entry 0x10 2 9 0) (entry 0xFD 4 18 0) is Err (Past 1) numbered 13 ∷
+    two (entry 0x10 2 8 0) (entry 0xFC 9 17 0) is Err (Start 0) numbered 13 ∷
     -- in a byte: the bits that are shared
-    one (0x00 ∷ 0x0F ∷ 0x01 ∷ 0x10 ∷ []) is Shared 0 numbered 14 ∷
+    one (0x00 ∷ 0x0F ∷ 0x01 ∷ 0x10 ∷ []) is Err (Shared 0) numbered 14 ∷
     []
 
 -- ---- what the table claims

@@ -1,15 +1,13 @@
 -- The device that a sheet describes: its four tables, byte by byte. A byte that no entry lists has 0 in each.
-use Rattle.std.specs.Prelude.{List, Bool, ℕ, zero, suc, ◌+◌, ◌-◌, ◌*◌}
-use Rattle.bits.specs.Choice.{when◌then◌else◌, ◌and◌, ◌≤?◌, ◌<?◌}
+use Rattle.std.specs.Prelude.{List, Bool, ℕ, zero, suc, ◌+◌, ◌-◌, ◌*◌, is_ok}
+use Rattle.bits.specs.Choice.{when◌then◌else◌}
 use Rattle.bits.specs.Places.{bytes}
 use Rattle.plain_device.specs.declared.Tables.{Tables}
 use Rattle.sheet.specs.Sheet.{at, entries, offset_of, length_of, start_of, body_of, part_of, DEFAULT, GUEST, HOST, RESET}
-use Rattle.sheet_rules.specs.Check.{accepts, check_of}
+use Rattle.sheet.specs.Reads.{covers}
+use Rattle.sheet_rules.specs.Check.{check_of}
 
--- a register of that offset and length has byte i of the device
-abbrev pub covers : ℕ → ℕ → ℕ → Bool
-covers offset long i = offset ≤? i and i <? offset + long
-
+-- entry k has byte i of the device
 abbrev pub has : List ℕ → ℕ → ℕ → Bool
 has s k i = covers (offset_of s k) (length_of s k) i
 
@@ -26,7 +24,7 @@ tables f = record { defaults = f DEFAULT; guests = f GUEST; hosts = f HOST; rese
 
 -- a sheet that is refused gives zeros
 unfoldable pub tables_of : List ℕ → Tables
-tables_of s = when accepts (check_of s) then tables (table_of s) else tables (λ (p : ℕ). bytes (λ (i : ℕ). 0))
+tables_of s = when is_ok (check_of s) then tables (table_of s) else tables (λ (p : ℕ). bytes (λ (i : ℕ). 0))
 
 -- ---- as the code finds it: at its place in the sheet
 

@@ -1,7 +1,8 @@
 -- What a line asks of a sheet's device over lent bytes comes to the rules, for tables whose defaults are 256 bytes.
+use Rattle.std.specs.Prelude.{Option, None, Some}
 use mathlib.Core.Path.{◌≡◌, refl, ap}
 use mathlib.Core.List.{List}
-use mathlib.Core.Bool.{Bool, true, false}
+use mathlib.Core.Bool.{Bool}
 use Prim.Native.Nat.{ℕ, ◌^◌, ◌<◌}
 use native.Mathlib.Omega.{arith}
 use lib.Dec.{eqb, ltb}
@@ -22,8 +23,6 @@ use Rattle.plain_device.specs.declared.Event.TheVariants.{Read, Write, HostUpdat
 use Rattle.plain_device.specs.Device.{write_of, host_of, function_reset_of, happens}
 use Rattle.plain.specs.Plain.{made}
 use Rattle.plain_device.proofs.Bridge.{read_is, write_is, update_is, reset_is}
-use Rattle.sheet_lines.specs.declared.Meant.{Meant}
-use Rattle.sheet_lines.specs.declared.Meant.TheVariants as M
 use Rattle.sheet_step.specs.Ask.{happens_in, meant_of}
 use Rattle.sheet_step.specs.Player.{meant_in}
 
@@ -56,10 +55,10 @@ module _ (t : Tables) (m : List ℕ) (g : Good m) where
   event_is FunctionReset = ap (lent fine) (reset_is t.resets t.defaults m g.long)
   event_is PlatformReset = refl
 
-  pub meant_is : (q : Meant) → meant_of t.defaults t.guests t.hosts t.resets m q ≡ meant_in t q m
+  pub meant_is : (q : Option Event) → meant_of t.defaults t.guests t.hosts t.resets m q ≡ meant_in t q m
   unfolding meant_of
-  meant_is (M.Event e) = event_is e
-  meant_is M.Nothing = refl
+  meant_is (Some e) = event_is e
+  meant_is None = refl
 
   -- ---- the bytes stay 256
 
@@ -72,6 +71,6 @@ module _ (t : Tables) (m : List ℕ) (g : Good m) where
     event_good FunctionReset = chosen_good (under t.resets) (λ (i : ℕ). get_or t.defaults i 0) byte
     event_good PlatformReset = d
 
-    pub meant_good : (q : Meant) → Good (meant_in t q m).bytes
-    meant_good (M.Event e) = event_good e
-    meant_good M.Nothing = g
+    pub meant_good : (q : Option Event) → Good (meant_in t q m).bytes
+    meant_good (Some e) = event_good e
+    meant_good None = g

@@ -7,7 +7,7 @@ use Rattle.bits.specs.Places.{from}
 use Rattle.access.specs.Access.{enabled, byte_for}
 use Rattle.line_forms.specs.Ascii.{ascii}
 use Rattle.line_forms.specs.Hex.{up_of, hex_of}
-use Rattle.line_forms.specs.Read.{digit_of, hex_from, field_of, columns_of, numbers_of, asks_of, read_by}
+use Rattle.line_forms.specs.Read.{digit_of, hex_from, field_of, columns_of, numbers_by, numbers_of, asks_of, read_by}
 use Rattle.text_answer.specs.Text.{ok_text, no_text, value_text, reply_text}
 use Rattle.session.specs.Session.{lines_of, rest_of, all_lines, answers, after}
 use Rattle.plain_device.specs.declared.Tables.{Tables}
@@ -44,5 +44,5 @@ pub record Played : Type 0 where
   pub anew : bytes_after small (all_lines (before_z ++ ascii "Z\nP\nW 00 1 FFFFFF56")) ≡ two 0x56 0x12
 
 pub played : Played
-unfolding number_of enabled byte_for up_of hex_of digit_of hex_from field_of columns_of numbers_of asks_of read_by ok_text no_text value_text reply_text lines_of rest_of answers after read_of write_of host_of function_reset_of happens
+unfolding number_of enabled byte_for up_of hex_of digit_of hex_from field_of columns_of numbers_by numbers_of asks_of read_by ok_text no_text value_text reply_text lines_of rest_of answers after read_of write_of host_of function_reset_of happens
 played = record { said = refl; before = refl; reset = refl; kept = refl; anew = refl }

@@ -1,27 +1,25 @@
 -- A session on a sheet's device: the rows that its lines have are sheet_lines'. What a line does is what the device's event does.
-use Rattle.std.specs.Prelude.{List, [], ◌∷◌, ℕ}
+use Rattle.std.specs.Prelude.{Option, None, Some, List, [], ◌∷◌, ℕ}
 use Rattle.answer.specs.Refusals.{no, LINE}
 use Rattle.host_updates.specs.Update.{Lent, lent}
 use Rattle.plain_device.specs.declared.Tables.{Tables}
 use Rattle.plain_device.specs.declared.Event.{Event}
 use Rattle.plain_device.specs.Device.{happens}
 use Rattle.line_forms.specs.Read.{read_by}
-use Rattle.sheet_lines.specs.declared.Meant.{Meant}
-use Rattle.sheet_lines.specs.declared.Meant.TheVariants as M
 use Rattle.sheet_lines.specs.Table.{sheet_rows}
 use Rattle.text_answer.specs.Text.{reply_text}
 use Rattle.session.specs.Session.{all_lines, answers}
 
 -- what a line means
-abbrev pub means : List ℕ → Meant
-means l = read_by M.Nothing sheet_rows l
+abbrev pub means : List ℕ → Option Event
+means l = read_by None sheet_rows l
 
 -- ---- the events of lines, in turn
 
 infixr 15 ◌before◌
-abbrev pub ◌before◌ : Meant → List Event → List Event
-M.Nothing before es = es
-(M.Event e) before es = e ∷ es
+abbrev pub ◌before◌ : Option Event → List Event → List Event
+None before es = es
+(Some e) before es = e ∷ es
 
 unfoldable pub events_of : List (List ℕ) → List Event
 events_of [] = []
@@ -31,9 +29,9 @@ events_of (l ∷ ls) = means l before events_of ls
 
 module _ (t : Tables) where
   -- a line of no form does nothing, and is refused, 9
-  abbrev pub meant_in : Meant → List ℕ → Lent
-  meant_in (M.Event e) m = happens t e m
-  meant_in M.Nothing m = lent (no LINE) m
+  abbrev pub meant_in : Option Event → List ℕ → Lent
+  meant_in (Some e) m = happens t e m
+  meant_in None m = lent (no LINE) m
 
   abbrev pub line_next : List ℕ → List ℕ → List ℕ
   line_next m l = (meant_in (means l) m).bytes

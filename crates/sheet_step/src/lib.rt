@@ -7,8 +7,8 @@ ghost use Rattle.sheet_step.specs.Ask.{happens_in, meant_of};
 
 use answer::{Answer, Refusal};
 use plain_device::Event;
-use sheet_lines::Meant;
 
+#[tactic(auto, unfolding(crate::specs::Ask::happens_in))]
 fn happen(
     defaults: &[u8; 256],
     guests: &[u8; 256],
@@ -25,27 +25,28 @@ fn happen(
         Event::HostUpdate(o, k, v) => host_updates::host_update(m, hosts, o, k, v),
         Event::FunctionReset => {
             plain::reset(m, resets, defaults);
-            Answer::Done
+            Ok(None)
         }
         Event::PlatformReset => {
             *m = *defaults;
-            Answer::Done
+            Ok(None)
         }
     }
 }
 
+#[tactic(auto, unfolding(crate::specs::Ask::meant_of))]
 pub fn ask(
     defaults: &[u8; 256],
     guests: &[u8; 256],
     hosts: &[u8; 256],
     resets: &[u8; 256],
     m: &mut [u8; 256],
-    q: Meant,
+    q: Option<Event>,
 ) -> Answer
     ensures { answered result m.new ≡ meant_of defaults.now guests.now hosts.now resets.now m.old q }
 {
     match q {
-        Meant::Event(e) => happen(defaults, guests, hosts, resets, m, e),
-        Meant::Nothing => Answer::No(Refusal::Line),
+        Some(e) => happen(defaults, guests, hosts, resets, m, e),
+        None => Err(Refusal::Line),
     }
 }

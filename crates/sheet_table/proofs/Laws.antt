@@ -1,29 +1,42 @@
--- A list is its places with one byte behind them; the lines of a table, one and then the others.
-use mathlib.Core.Path.{◌≡◌, sym, ◌∙◌}
-use mathlib.Core.List.{List, [], ◌∷◌, ◌++◌}
-use Prim.Native.Nat.{ℕ, suc, ◌-◌, ◌<◌}
+-- The columns of a line and the lines of a table, put one behind the other.
+use mathlib.Core.Path.{◌≡◌, sym, ap, ◌∙◌}
+use mathlib.Core.List.{List, [], ◌∷◌}
+use Prim.Native.Nat.{ℕ, suc, ◌+◌, ◌-◌, ◌<◌, ◌≤◌}
+use Rattle.std.specs.Prelude.{◌++◌}
+use Rattle.std.proofs.lemmas.List.{append_assoc, append-nil}
 use native.Mathlib.Omega.{arith}
-use lib.ListN.{length, take, get_or}
-use lib.Seq.{length-take-le, take_all, take-suc, get_or-take}
 use Rattle.bits.specs.Places.{from}
-use Rattle.bits.proofs.Places.{as_from}
 use Rattle.sheet_table.specs.Row.{row_text, rows_text}
 
-pub from_then : (n : ℕ) (l : List ℕ) (f : ℕ → ℕ) (x : ℕ) → length l ≡ suc n → get_or l n 0 ≡ x → ((i : ℕ) → i < n → get_or l i 0 ≡ f i) → l ≡ from n f 0 ++ (x ∷ [])
-from_then n l f x k e h =
-    let front : take n l ≡ from n f 0 = as_from n (take n l) f (length-take-le n l (omega arith)) (λ i g. get_or-take n l i 0 g ∙ h i g) in
-    sym (take_all (suc n) l (omega arith)) ∙ take-suc l n 0 (omega arith) ∙ rw (front, e)
+one_more : (i : ℕ) → i + 1 ≡ suc i
+one_more i = omega arith
 
--- ---- the lines of n entries, from entry k on
+one_left : (n i : ℕ) → i < n → n - i ≡ suc (n - (i + 1))
+one_left n i h = omega (arith, h)
 
-pub rows_step : (s : List ℕ) (n k : ℕ) → k < n → rows_text s k (n - k) ≡ row_text s k ++ rows_text s (suc k) (n - suc k)
+none_left : (n i : ℕ) → n ≤ i → n - i ≡ 0
+none_left n i h = omega (arith, h)
+
+-- behind what is put comes column i, and then those that are left
+pub next_column : (put : List ℕ) (f : ℕ → ℕ) (n i : ℕ) → i < n → (put ++ f i ∷ []) ++ from (n - (i + 1)) f (i + 1) ≡ put ++ from (n - i) f i
+next_column put f n i h =
+    append_assoc put (f i ∷ []) _
+    ∙ ap (λ m. put ++ f i ∷ from (n - (i + 1)) f m) (one_more i)
+    ∙ ap (λ k. put ++ from k f i) (sym (one_left n i h))
+
+-- and behind the last there is none
+pub last_column : (put : List ℕ) (f : ℕ → ℕ) (n i : ℕ) → n ≤ i → put ++ from (n - i) f i ≡ put
+last_column put f n i h = ap (λ k. put ++ from k f i) (none_left n i h) ∙ append-nil put
+
+-- behind what is put comes the line of entry i, and then those that are left
+pub next_line : (put s : List ℕ) (n i : ℕ) → i < n → (put ++ row_text s i) ++ rows_text s (i + 1) (n - (i + 1)) ≡ put ++ rows_text s i (n - i)
 unfolding rows_text
-rows_step s n k h =
-    let e : n - k ≡ suc (n - suc k) = omega arith in
-    rw e
+next_line put s n i h =
+    append_assoc put (row_text s i) _
+    ∙ ap (λ m. put ++ (row_text s i ++ rows_text s m (n - (i + 1)))) (one_more i)
+    ∙ ap (λ k. put ++ rows_text s i k) (sym (one_left n i h))
 
-pub rows_end : (s : List ℕ) (n : ℕ) → rows_text s n (n - n) ≡ []
+-- and behind the last there is none
+pub last_line : (put s : List ℕ) (n i : ℕ) → n ≤ i → put ++ rows_text s i (n - i) ≡ put
 unfolding rows_text
-rows_end s n =
-    let e : n - n ≡ 0 = omega arith in
-    rw e
+last_line put s n i h = ap (λ k. put ++ rows_text s i k) (none_left n i h) ∙ append-nil put

@@ -2,9 +2,7 @@
 #![tactic(auto)]
 
 fn main(rt: HostRuntime) {
-    let mut buf = console_session::in_buffer();
-    let mut out = console_session::out_buffer();
-    let s = snapshot_session::snap(&rt, &mut buf, &mut out);
-    let n = s.n;
-    streams::put(&rt, &out[..n]);
+    if let Ok(dump) = snapshot_session::snap(&rt) {
+        let _ = streams::put(&rt, dump.as_slice());
+    }
 }

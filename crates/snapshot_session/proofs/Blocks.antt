@@ -1,23 +1,30 @@
 -- Whatever the blocks that an input comes in, a snapshot shows the bytes after its lines.
-use mathlib.Core.Path.{◌≡◌, sym, ap, subst, ◌∙◌}
-use mathlib.Core.List.{List, []}
-use mathlib.Core.Bool.{Bool, true, false, not}
+use mathlib.Core.Path.{◌≡◌, refl, sym, ap, ◌∙◌}
+use mathlib.Core.List.{List, [], ◌∷◌, ◌++◌}
 use Prim.Native.Nat.{ℕ}
-use lib.Dec.{T}
 use Rattle.rules.specs.declared.State.{State}
 use Rattle.rules.specs.Fresh.{fresh_of}
 use Rattle.rules.specs.Read.{image_of}
-use Rattle.session.specs.Session.{joins, blocks_state}
+use Rattle.session.specs.Session.{all_lines, joins, after, blocks_state}
 use Rattle.console_lines.specs.Console.{line_next, line_say}
-use Rattle.console_lines.proofs.Console.{console_after}
-use Rattle.console_session.specs.Turns.{Led}
+use Rattle.console_lines.proofs.Blocks.{console_after}
 use Rattle.lspci_text.specs.Dump.{dump_text}
-use Rattle.snapshot_session.specs.Shown.{snapshot_of, Shown}
+use Rattle.snapshot_session.specs.Shown.{snapshot_of, Played, Shown}
+use Rattle.snapshot_session.specs.Silence.{silence}
 
 pub snapshot_is : (xs : List (List ℕ)) → dump_text (image_of (blocks_state line_next line_say 27 fresh_of [] xs)) ≡ snapshot_of (joins xs)
 snapshot_is xs = ap (λ (s : State). dump_text (image_of s)) (console_after xs)
 
--- what listening led to, where the input has ended
-pub shown : (over : Bool) (s : State) (text : List ℕ) → not over ≡ false → Led over fresh_of s → text ≡ dump_text (image_of s) → Shown true text
-shown false s text e l d = absurd (subst T e tt)
-shown true s text e l d = (joins l.0, sym (snapshot_is l.0) ∙ ap (λ (t : State). dump_text (image_of t)) l.1 ∙ sym d)
+-- what a silent console says changes no state
+silent : (s : State) (ls : List (List ℕ)) → after line_next silence s ls ≡ after line_next line_say s ls
+unfolding after
+silent s [] = refl
+silent s (l ∷ ls) = silent (line_next s l) ls
+
+-- the state that the session left
+pub played : (first end : State) → first ≡ fresh_of → (xs : List ℕ) × (after line_next silence first (all_lines xs) ≡ end) → Played end
+played first end f l = (l.0, sym (silent fresh_of (all_lines l.0)) ∙ rw f at l.1)
+
+-- and the dump of it behind nothing
+pub shown : (s : State) (none text : List ℕ) → Played s → none ≡ [] → text ≡ none ++ dump_text (image_of s) → Shown text
+shown s none text p n d = (p.0, ap (λ (t : State). dump_text (image_of t)) p.1 ∙ sym (d ∙ ap (λ (t : List ℕ). t ++ dump_text (image_of s)) n))

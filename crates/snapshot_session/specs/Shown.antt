@@ -1,5 +1,6 @@
 -- What a snapshot shows of an input: the 256 bytes as a guest reads them after its lines, played from the fresh state, as lspci prints them.
-use Rattle.std.specs.Prelude.{◌≡◌, Bool, true, false, List, [], ℕ}
+use Rattle.std.specs.Prelude.{◌≡◌, List, ℕ}
+use Rattle.rules.specs.declared.State.{State}
 use Rattle.rules.specs.Fresh.{fresh_of}
 use Rattle.rules.specs.Read.{image_of}
 use Rattle.session.specs.Session.{all_lines, after}
@@ -9,7 +10,10 @@ use Rattle.lspci_text.specs.Dump.{dump_text}
 abbrev pub snapshot_of : List ℕ → List ℕ
 snapshot_of xs = dump_text (image_of (after line_next line_say fresh_of (all_lines xs)))
 
--- what is written: where the input has ended, the text that shows some input; where a read failed, nothing
-abbrev pub Shown : Bool → List ℕ → Type 0
-Shown true text = (xs : List ℕ) × (snapshot_of xs ≡ text)
-Shown false text = [] ≡ text
+-- the state after some input
+abbrev pub Played : State → Type 0
+Played s = (xs : List ℕ) × (after line_next line_say fresh_of (all_lines xs) ≡ s)
+
+-- the text that is written shows some input
+abbrev pub Shown : List ℕ → Type 0
+Shown text = (xs : List ℕ) × (snapshot_of xs ≡ text)

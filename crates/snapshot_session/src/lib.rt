@@ -1,34 +1,83 @@
 // A snapshot over standard input: a session of console lines played silently, and the 256 bytes as a guest reads them then, in the form of `lspci -n -xxx`.
 #![tactic(auto)]
 
-ghost use Rattle.std.specs.Prelude.{◌≡◌, ◌≤◌, length, take};
-ghost use Rattle.snapshot_session.specs.Shown.{Shown};
+ghost use Rattle.std.specs.Prelude.{◌≡◌, ℕ, List, [], IfOk};
+ghost use Rattle.rules.specs.declared.State.{State};
+ghost use Rattle.console_lines.specs.Console.{line_next};
+ghost use Rattle.console_lines.specs.Alike.{some, next_alike};
+ghost use Rattle.snapshot_session.specs.Shown.{Played, Shown};
+ghost use Rattle.snapshot_session.specs.Silence.{silence, silence_alike};
 
+use console_lines::Console;
+use rules::State;
+use session_loop::Machine;
+use std::io;
 use std::io::Input;
+use std::marker::Model;
+use text_pieces::Text;
 
-// The first `n` bytes of the buffer; none where the input did not end, but a read failed.
-#[derive(Clone, Copy)]
-pub struct Taken {
-    pub n: usize,
-    pub over: bool,
+// The text of a dump is so long at most.
+pub const DUMP: usize = 866;
+
+// A console whose answers are not wanted.
+#[derive(Drop)]
+struct Silent {
+    console: Console,
 }
 
-// The dump of what a guest reads after all of standard input.
-pub fn snap<R: Input + Print + Eprint + AllocGlobal>(
-    rt: &R,
-    buf: &mut [u8],
-    out: &mut [u8],
-) -> Taken
-    requires { (length buf.old ≡ 4123) × (length out.old ≡ 98952) }
-    ensures shown { Shown result.over (take result.n out.new) }
-    ensures n_in_bounds { (result.n ≤ length out.new) × (length out.new ≡ 98952) }
-{
-    let s = twin::fresh();
-    let h = console_session::listen(rt, s, false, buf, out);
-    if !h.over {
-        return Taken { n: 0, over: false };
+impl Model for Silent {
+    ghost Value = { State };
+
+    ghost view = { λ s. s.console };
+}
+
+impl<const N: usize> Machine<N> for Silent {
+    ghost next = { line_next };
+
+    ghost say = { silence };
+
+    ghost most = { 27 };
+
+    ghost widest = { 0 };
+
+    ghost some = { some };
+
+    ghost next_alike = { next_alike };
+
+    ghost say_alike = { silence_alike };
+
+    fn kept() -> usize {
+        console_lines::MOST
     }
-    let state = h.state;
-    let n = snapshot_text::show(state, out);
-    Taken { n, over: true }
+
+    fn answer(&mut self, line: &[u8], _out: &mut Text<N>) {
+        self.console.reply(line);
+    }
+}
+
+// The state after all of standard input, from the fresh one; none where that did not end, but a read failed.
+fn played<R: Input + Print + Eprint + AllocGlobal>(rt: &R) -> io::Result<State>
+    ensures { IfOk result Played }
+{
+    let mut silent = Silent {
+        console: Console {
+            state: twin::fresh(),
+        },
+    };
+    let mut buf = [0; console_lines::BUFFER];
+    let mut nothing = Text::<0>::new();
+    session_loop::session(rt, &mut silent, &mut buf, &mut nothing)?;
+    let console = silent.console;
+    Ok(console.state)
+}
+
+// The dump of what a guest reads then.
+#[tactic(auto, using(crate::proofs::Blocks::shown))]
+pub fn snap<R: Input + Print + Eprint + AllocGlobal>(rt: &R) -> io::Result<Text<DUMP>>
+    ensures { IfOk result Shown }
+{
+    let state = played(rt)?;
+    let mut dump = Text::<DUMP>::new();
+    snapshot_text::show(state, &mut dump);
+    Ok(dump)
 }

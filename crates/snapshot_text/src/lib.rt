@@ -1,18 +1,18 @@
 // The 256 bytes as a guest reads them, in the form of `lspci -n -xxx`.
 #![tactic(auto)]
 
-ghost use Rattle.std.specs.Prelude.{◌≡◌, ◌≤◌, length, take};
+ghost use Rattle.std.specs.Prelude.{◌≡◌, ◌++◌, ◌+◌, ◌≤◌, length};
 ghost use Rattle.rules.specs.Read.{image_of};
 ghost use Rattle.lspci_text.specs.Dump.{dump_text};
 
 use rules::State;
+use text_pieces::Text;
 
-// The dump of what a guest reads, at the start of `out`; the result is the place behind it.
-pub fn show(s: State, out: &mut [u8]) -> usize
-    requires { 866 ≤ length out.old }
-    ensures out_after { take result out.new ≡ dump_text (image_of s) }
-    ensures upper_bound { (result ≤ length out.new) × (length out.new ≡ length out.old) }
+// The dump of what a guest reads.
+pub fn show<const N: usize>(s: State, out: &mut Text<N>)
+    requires { length out.old + 866 ≤ N }
+    ensures put { out.new ≡ out.old ++ dump_text (image_of s) }
+    ensures upper_bound { length out.new ≤ length out.old + 866 }
 {
-    let b = twin::image(s);
-    lspci_text::put_dump(out, &b)
+    lspci_text::put_dump(out, &twin::image(s));
 }

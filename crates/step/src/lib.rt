@@ -6,13 +6,14 @@ ghost use Rattle.rules.specs.Events.{window_happens, happens};
 ghost use Rattle.rules.specs.Answers.{stepped};
 ghost use Rattle.asked.specs.Asked.{sight_of, response_of, shown_says, replied};
 
-use answer::{Answer, Refusal};
+use answer::{Answer, Refusal, Stepped};
 use asked::{Asked, Look, Replied, Shown, Told};
-use rules::{Event, State, Stepped, WindowEvent};
+use rules::{Event, State, WindowEvent};
 
 // ---- what happens
 
-fn window_step(s: State, e: WindowEvent) -> Stepped
+#[tactic(auto, unfolding(rules::specs::Events::window_happens))]
+fn window_step(s: State, e: WindowEvent) -> Stepped<State>
     ensures { stepped result ≡ window_happens e s }
 {
     match e {
@@ -24,14 +25,15 @@ fn window_step(s: State, e: WindowEvent) -> Stepped
         WindowEvent::Complete(m) => mmio_host::complete(s, m),
         WindowEvent::Fault(v) => mmio_host::fault(s, v),
         WindowEvent::AddCycles(n) => Stepped {
-            answer: Answer::Done,
+            answer: Ok(None),
             state: mmio_host::add_cycles(s, n),
         },
         WindowEvent::MirrorUpdate(o, m, v) => mmio_host::mirror_update(s, o, m, v),
     }
 }
 
-pub fn step(s: State, e: Event) -> Stepped
+#[tactic(auto, unfolding(rules::specs::Events::happens))]
+pub fn step(s: State, e: Event) -> Stepped<State>
     ensures { stepped result ≡ happens e s }
 {
     match e {
@@ -47,11 +49,11 @@ pub fn step(s: State, e: Event) -> Stepped
         Event::PortWrite(p, w, v) => ports::port_write(s, p, w, v),
         Event::HostUpdate(o, m, v) => twin::host_update(s, o, m, v),
         Event::EndSignal => Stepped {
-            answer: Answer::Done,
+            answer: Ok(None),
             state: twin::end_signal(s),
         },
         Event::PlatformReset => Stepped {
-            answer: Answer::Done,
+            answer: Ok(None),
             state: twin::platform_reset(s),
         },
         Event::InWindow(w) => window_step(s, w),
@@ -83,11 +85,11 @@ pub fn look(s: State, k: Look) -> Shown
 
 // ---- whatever is asked
 
-pub fn ask(s: State, q: Asked) -> Replied
+pub fn ask(s: State, q: Option<Asked>) -> Replied
     ensures { replied result ≡ response_of q s }
 {
     match q {
-        Asked::Event(e) => {
+        Some(Asked::Event(e)) => {
             let r = step(s, e);
             let a = r.answer;
             let t = r.state;
@@ -96,12 +98,12 @@ pub fn ask(s: State, q: Asked) -> Replied
                 state: t,
             }
         }
-        Asked::Look(k) => Replied {
+        Some(Asked::Look(k)) => Replied {
             told: Told::Shown(look(s, k)),
             state: s,
         },
-        Asked::Nothing => Replied {
-            told: Told::Answer(Answer::No(Refusal::Line)),
+        None => Replied {
+            told: Told::Answer(Err(Refusal::Line)),
             state: s,
         },
     }

@@ -13,13 +13,6 @@ pub fn endless() -> u64
     u64::MAX
 }
 
-// What a call moved: `n` bytes, or none where it failed.
-#[derive(Clone, Copy)]
-pub struct Moved {
-    pub n: usize,
-    pub failed: bool,
-}
-
 // ---- what fails
 
 // A line on standard error: what failed, a colon, and the system's words without its number. What cannot be told is let go.
@@ -45,38 +38,33 @@ fn read_once<F: Read>(from: &mut F, buf: &mut [u8], k: usize) -> io::Result<usiz
     from.read(&mut buf[k..])
 }
 
-// The same, again where a signal interrupts it. What fails is told as `what`'s.
-pub fn read<R: Eprint + AllocGlobal, F: Read>(
-    rt: &R,
-    from: &mut F,
-    what: &str,
-    buf: &mut [u8],
-    k: usize,
-) -> Moved
+// The same, again where a signal interrupts it.
+pub fn read<F: Read>(from: &mut F, buf: &mut [u8], k: usize) -> io::Result<usize>
     requires { k ≤ length buf.old }
-    ensures { (k + result.n ≤ length buf.new) × (length buf.new ≡ length buf.old) × (take k buf.new ≡ take k buf.old) }
+    ensures bound { IfOk result (λ n. k + n ≤ length buf.new) }
+    ensures kept { (length buf.new ≡ length buf.old) × (take k buf.new ≡ take k buf.old) }
 {
     for _ in 0..endless() {
         match read_once(from, buf, k) {
-            Ok(n) => return Moved { n, failed: false },
-            Err(error) => {
-                if error.kind() != ErrorKind::Interrupted {
-                    fail(rt, what, error);
-                    return Moved { n: 0, failed: true };
-                }
-            }
+            Err(error) if error.kind() == ErrorKind::Interrupted => {}
+            done => return done,
         }
     }
-    Moved { n: 0, failed: true }
+    Err(Error::from(ErrorKind::Interrupted))
 }
 
-// From standard input.
-pub fn fill<R: Input + Eprint + AllocGlobal>(rt: &R, buf: &mut [u8], k: usize) -> Moved
+// From standard input. What fails is told.
+pub fn fill<R: Input + Eprint + AllocGlobal>(rt: &R, buf: &mut [u8], k: usize) -> io::Result<usize>
     requires { k ≤ length buf.old }
-    ensures { (k + result.n ≤ length buf.new) × (length buf.new ≡ length buf.old) × (take k buf.new ≡ take k buf.old) }
+    ensures bound { IfOk result (λ n. k + n ≤ length buf.new) }
+    ensures kept { (length buf.new ≡ length buf.old) × (take k buf.new ≡ take k buf.old) }
 {
     let mut from = rt.reader();
-    read(rt, &mut from, "standard input", buf, k)
+    let got = read(&mut from, buf, k);
+    if let Err(error) = got {
+        fail(rt, "standard input", error);
+    }
+    got
 }
 
 // ---- writing
@@ -99,23 +87,18 @@ pub fn write<R: Print>(rt: &R, buf: &[u8]) -> io::Result<()> {
         match write_once(rt, buf, done) {
             Ok(0) => return Err(Error::from(ErrorKind::WriteZero)),
             Ok(n) => done += n,
-            Err(error) => {
-                if error.kind() != ErrorKind::Interrupted {
-                    return Err(error);
-                }
-            }
+            Err(error) if error.kind() == ErrorKind::Interrupted => {}
+            Err(error) => return Err(error),
         }
     }
     Err(Error::from(ErrorKind::WriteZero))
 }
 
-// To standard output, and whether all was taken. What fails is told.
-pub fn put<R: Print + Eprint + AllocGlobal>(rt: &R, buf: &[u8]) -> bool {
-    match write(rt, buf) {
-        Ok(()) => true,
-        Err(error) => {
-            fail(rt, "standard output", error);
-            false
-        }
+// All of it to standard output. What fails is told.
+pub fn put<R: Print + Eprint + AllocGlobal>(rt: &R, buf: &[u8]) -> io::Result<()> {
+    let put = write(rt, buf);
+    if let Err(error) = put {
+        fail(rt, "standard output", error);
     }
+    put
 }

@@ -1,86 +1,38 @@
-// The text of an answer, put at a place of a buffer.
+// The text of an answer, put behind what a text has.
 #![tactic(auto)]
 
-ghost use Rattle.std.specs.Prelude.{◌≡◌, ◌++◌, ◌+◌, ◌<◌, ◌≤◌, length, take};
+ghost use Rattle.std.specs.Prelude.{◌≡◌, ◌++◌, ◌+◌, ◌≤◌, length};
 ghost use Rattle.answer.specs.Said.{says};
-ghost use Rattle.line_forms.specs.Hex.{up_of};
-ghost use Rattle.text_answer.specs.Text.{ok_text, no_text, value_text, reply_text};
+ghost use Rattle.text_answer.specs.Text.{no_text, reply_text};
 
 use answer::Answer;
+use text_pieces::Text;
 
-// A digit in upper-case hex.
-fn up(n: u32) -> u8
-    requires { n < 16 }
-    ensures { result ≡ up_of n }
+// A refusal's number in decimal, one digit or two (of a larger one its last two).
+#[tactic(auto, unfolding(crate::specs::Text::no_text))]
+fn put_no<const N: usize>(out: &mut Text<N>, n: u32)
+    requires { length out.old + 6 ≤ N }
+    ensures put { out.new ≡ out.old ++ no_text n }
+    ensures upper_bound { length out.new ≤ length out.old + 6 }
 {
-    if n < 10 {
-        return (48 + n) as u8;
+    out.put(b"NO ");
+    if 10 <= n {
+        out.push(text_pieces::digit(n / 10 % 10));
     }
-    (55 + n) as u8
+    out.push(text_pieces::digit(n % 10));
+    out.push(b'\n');
 }
 
-fn put_ok(out: &mut [u8], o: usize)
-    requires { o + 3 ≤ length out.old }
-    ensures out_after { take (o + 3) out.new ≡ take o out.old ++ ok_text }
-    ensures out_len_unchanged { length out.new ≡ length out.old }
-{
-    out[o] = b'O';
-    out[o + 1] = b'K';
-    out[o + 2] = b'\n';
-}
-
-// A refusal's number in decimal, one digit or two (of a larger one its last two); the result is the place behind it.
-fn put_no(out: &mut [u8], o: usize, n: u32) -> usize
-    requires { o + 6 ≤ length out.old }
-    ensures out_after { take result out.new ≡ take o out.old ++ no_text n }
-    ensures out_len_unchanged { length out.new ≡ length out.old }
-    ensures upper_bound { result ≤ o + 6 }
-{
-    out[o] = b'N';
-    out[o + 1] = b'O';
-    out[o + 2] = b' ';
-    if n < 10 {
-        let d = up(n);
-        out[o + 3] = d;
-        out[o + 4] = b'\n';
-        return o + 5;
-    }
-    let t = up(n / 10 % 10);
-    let d = up(n % 10);
-    out[o + 3] = t;
-    out[o + 4] = d;
-    out[o + 5] = b'\n';
-    o + 6
-}
-
-fn put_value(out: &mut [u8], o: usize, v: u32)
-    requires { o + 12 ≤ length out.old }
-    ensures out_after { take (o + 12) out.new ≡ take o out.old ++ value_text v }
-    ensures out_len_unchanged { length out.new ≡ length out.old }
-{
-    out[o] = b'O';
-    out[o + 1] = b'K';
-    out[o + 2] = b' ';
-    let e = text_pieces::put8(out, o + 3, v);
-    out[e] = b'\n';
-}
-
-// The answer's line from place `o` on; the result is the place behind it. At most 12 bytes are put.
-pub fn put(out: &mut [u8], o: usize, a: Answer) -> usize
-    requires { o + 12 ≤ length out.old }
-    ensures out_after { take result out.new ≡ take o out.old ++ reply_text (says a) }
-    ensures out_len_unchanged { length out.new ≡ length out.old }
-    ensures upper_bound { result ≤ o + 12 }
+// The answer's line, at most 12 bytes.
+#[tactic(auto, unfolding(crate::specs::Text::reply_text, crate::specs::Text::ok_text, crate::specs::Text::value_text))]
+pub fn put<const N: usize>(out: &mut Text<N>, a: Answer)
+    requires { length out.old + 12 ≤ N }
+    ensures put { out.new ≡ out.old ++ reply_text (says a) }
+    ensures upper_bound { length out.new ≤ length out.old + 12 }
 {
     match a {
-        Answer::Done => {
-            put_ok(out, o);
-            o + 3
-        }
-        Answer::No(r) => put_no(out, o, answer::number(r)),
-        Answer::Value(v) => {
-            put_value(out, o, v);
-            o + 12
-        }
+        Ok(None) => out.put(b"OK\n"),
+        Ok(Some(v)) => out.put_dword(b"OK ", v),
+        Err(r) => put_no(out, answer::number(r)),
     }
 }

@@ -1,51 +1,54 @@
-// The text of what a look shows, at most 24 bytes, put at a place of a buffer.
+// The text of what a look shows, at most 24 bytes, put behind what a text has.
 #![tactic(auto)]
 
-ghost use Rattle.std.specs.Prelude.{◌≡◌, ◌++◌, ◌+◌, ◌≤◌, length, take};
+ghost use Rattle.std.specs.Prelude.{◌≡◌, ◌++◌, ◌+◌, ◌≤◌, length};
 ghost use Rattle.rules.specs.Answers.{claim_says};
 ghost use Rattle.probe.specs.Probe.{probe_says};
 ghost use Rattle.asked.specs.Asked.{shown_says};
 ghost use Rattle.text_shown.specs.Answers.{claim_text, probe_text, said_text};
 
 use asked::Shown;
-use probe::Probed;
+use probe::Range;
 use rules::Claim;
+use text_pieces::Text;
 
-fn put_window(out: &mut [u8], o: usize, c: Claim) -> usize
-    requires { o + 24 ≤ length out.old }
-    ensures out_after { take result out.new ≡ take o out.old ++ claim_text (claim_says c) }
-    ensures upper_bound { (result ≤ o + 24) × (length out.new ≡ length out.old) }
+fn put_window<const N: usize>(out: &mut Text<N>, c: Option<Claim>)
+    requires { length out.old + 24 ≤ N }
+    ensures put { out.new ≡ out.old ++ claim_text (claim_says c) }
+    ensures upper_bound { length out.new ≤ length out.old + 24 }
 {
     match c {
-        Claim::Translation(x) => text_pieces::put_dword(out, o, b"OK TRANSLATION ", x),
-        Claim::Aperture(x) => text_pieces::put_dword(out, o, b"OK APERTURE ", x),
-        Claim::Io(x) => text_pieces::put_dword(out, o, b"OK IO ", x),
-        Claim::None => text_pieces::put(out, o, b"OK NONE\n"),
+        Some(Claim::Translation(x)) => out.put_dword(b"OK TRANSLATION ", x),
+        Some(Claim::Aperture(x)) => out.put_dword(b"OK APERTURE ", x),
+        Some(Claim::Io(x)) => out.put_dword(b"OK IO ", x),
+        None => out.put(b"OK NONE\n"),
     }
 }
 
-fn put_range(out: &mut [u8], o: usize, p: Probed) -> usize
-    requires { o + 24 ≤ length out.old }
-    ensures out_after { take result out.new ≡ take o out.old ++ probe_text (probe_says p) }
-    ensures upper_bound { (result ≤ o + 24) × (length out.new ≡ length out.old) }
+#[tactic(auto, unfolding(text_answer::specs::Text::no_text, line_forms::specs::Hex::up_of))]
+fn put_range<const N: usize>(out: &mut Text<N>, p: Option<Range>)
+    requires { length out.old + 24 ≤ N }
+    ensures put { out.new ≡ out.old ++ probe_text (probe_says p) }
+    ensures upper_bound { length out.new ≤ length out.old + 24 }
 {
     match p {
-        Probed::Io(e) => text_pieces::put_byte(out, o, b"OK IO ", e),
-        Probed::Memory32(e) => text_pieces::put_byte(out, o, b"OK MEM32 ", e),
-        Probed::Memory64(e) => text_pieces::put_byte(out, o, b"OK MEM64 ", e),
-        Probed::NoRange => text_pieces::put(out, o, b"NO 8\n"),
+        Some(Range::Io(e)) => out.put_byte(b"OK IO ", e),
+        Some(Range::Memory32(e)) => out.put_byte(b"OK MEM32 ", e),
+        Some(Range::Memory64(e)) => out.put_byte(b"OK MEM64 ", e),
+        None => out.put(b"NO 8\n"),
     }
 }
 
-// The line of what is shown, from place `o` on; the result is the place behind it.
-pub fn put_shown(out: &mut [u8], o: usize, w: Shown) -> usize
-    requires { o + 24 ≤ length out.old }
-    ensures out_after { take result out.new ≡ take o out.old ++ said_text (shown_says w) }
-    ensures upper_bound { (result ≤ o + 24) × (length out.new ≡ length out.old) }
+// The line of what is shown.
+#[tactic(auto, unfolding(crate::specs::Answers::said_text))]
+pub fn put_shown<const N: usize>(out: &mut Text<N>, w: Shown)
+    requires { length out.old + 24 ≤ N }
+    ensures put { out.new ≡ out.old ++ said_text (shown_says w) }
+    ensures upper_bound { length out.new ≤ length out.old + 24 }
 {
     match w {
-        Shown::Claimed(c) => put_window(out, o, c),
-        Shown::Range(p) => put_range(out, o, p),
-        Shown::Item(f, n) => text_walk::put_item(out, o, f, n),
+        Shown::Claimed(c) => put_window(out, c),
+        Shown::Range(p) => put_range(out, p),
+        Shown::Item(f, n) => text_walk::put_item(out, f, n),
     }
 }

@@ -10,8 +10,8 @@ ghost use Rattle.rules.specs.Fresh.{fresh_of};
 ghost use Rattle.answer.specs.Said.{says};
 ghost use Rattle.rules.specs.Answers.{stepped};
 
-use answer::Answer;
-use rules::{State, Stepped};
+use answer::{Answer, Stepped};
+use rules::State;
 
 // The enabled bytes of the dword at `offset`.
 pub fn read(s: State, offset: u32, lanes: u32) -> Answer
@@ -30,21 +30,17 @@ pub fn image(s: State) -> [u8; 256]
 }
 
 // A guest write of the enabled bytes of `value` to the dword at `offset`; it may start a function reset, and while one is under way it is dropped.
-pub fn write(s: State, offset: u32, lanes: u32, value: u32) -> Stepped
+pub fn write(s: State, offset: u32, lanes: u32, value: u32) -> Stepped<State>
     ensures { stepped result ≡ write_of s offset lanes value }
 {
     let guest = map::all_guests();
     let mut t = s;
-    let c = t.flags;
-    let w = guest_write::write(&mut t.bytes, &guest, c, offset, lanes, value);
-    let answer = w.answer;
-    let after = w.flags;
-    t.flags = after;
+    let answer = guest_write::write(&mut t.bytes, &guest, &mut t.flags, offset, lanes, value);
     Stepped { answer, state: t }
 }
 
 // The device's own change of the bits under `mask`, in the byte at `offset`.
-pub fn host_update(s: State, offset: u32, mask: u8, value: u8) -> Stepped
+pub fn host_update(s: State, offset: u32, mask: u8, value: u8) -> Stepped<State>
     ensures { stepped result ≡ host_of s offset mask value }
 {
     let host = map::all_hosts();
@@ -58,9 +54,7 @@ pub fn end_signal(s: State) -> State
     ensures { result ≡ end_of s }
 {
     let mut t = s;
-    let c = t.flags;
-    let after = function_reset::end(&mut t.bytes, c);
-    t.flags = after;
+    function_reset::end(&mut t.bytes, &mut t.flags);
     t
 }
 

@@ -4,7 +4,7 @@
 ghost use Rattle.std.specs.Prelude.{◌≡◌, length};
 ghost use Rattle.walk.specs.Walk.{walk_of, walk_says, walk_from, most};
 
-// How a walk ends: refused for its buffer's length, absent, a bad pointer, endless, or found at an offset.
+// How a walk ends: refused for its buffer's length, absent, a bad pointer, endless, or found at an offset. Paper 01 names these cases, and the loop below that yields them by break, with its count.
 #[derive(Clone, Copy)]
 pub enum Found {
     Length,
@@ -53,6 +53,7 @@ fn items(s: &[u8], want: u8, first: u8) -> Walked
 }
 
 // The item with the ID `want`.
+#[tactic(auto, using(bits::proofs::Tests::tests), unfolding(crate::specs::Walk::walk_of))]
 pub fn walk(s: &[u8], want: u8) -> Walked
     ensures { walk_says result ≡ walk_of s.now want }
 {

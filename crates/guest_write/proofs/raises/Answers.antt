@@ -8,5 +8,4 @@ pub returns : goal.returns
 unfolding flags_after
 returns c =
     let a = c.args in
-    let p = c.requires in
-    rw (c.raise-4.ensures, c.raise-3.ensures, c.raise-2.ensures, c.raise.ensures, closed_is svid2 a.c.svid2 a.o a.lanes p.0 p.1 p.2, closed_is sid2 a.c.sid2 a.o a.lanes p.0 p.1 p.2, closed_is swsci15 a.c.swsci15 a.o a.lanes p.0 p.1 p.2, busy_is a.c.busy a.o a.lanes a.value p.1)
+    rw (c.raise-4.ensures, c.raise-3.ensures, c.raise-2.ensures, c.raise.ensures, closed_is svid2 a.c.svid2 a.a.offset a.a.lanes a.a.within a.a.aligned a.a.laned, closed_is sid2 a.c.sid2 a.a.offset a.a.lanes a.a.within a.a.aligned a.a.laned, closed_is swsci15 a.c.swsci15 a.a.offset a.a.lanes a.a.within a.a.aligned a.a.laned, busy_is a.c.busy a.a.offset a.a.lanes a.value a.a.aligned)

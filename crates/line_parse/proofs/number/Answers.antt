@@ -8,15 +8,14 @@ use Rattle.line_forms.proofs.Digits.{stops, goes, grown, of_fewer}
 use Rattle.line_parse.proofs.number.Goals as goal
 
 -- what the number is after one more digit
-fits : (c : goal.Else-d-gt15) → c.loop-j.v * 16 + c.digit-d.result < 2 ^ 64
-fits c =
-    of_fewer 16 (c.loop-j.j + 1) _ (omega arith) (grown c.loop-j.j c.loop-j.v c.digit-d.result c.loop-j.invariant.1 c.if-d-gt15.false)
+fits : (c : goal.In_ok-d) → c.loop-j.v * 16 + c.in_ok-d.d < 2 ^ 64
+fits c = of_fewer 16 (c.loop-j.j + 1) _ (omega arith) (grown c.loop-j.j c.loop-j.v c.in_ok-d.d c.loop-j.invariant.0 c.in_ok-d.ensures.digit.1)
 
-pub returns-then-d-gt15 : goal.returns-then-d-gt15
-returns-then-d-gt15 c =
+pub returns-in_err-d : goal.returns-in_err-d
+returns-in_err-d c =
     let a = c.args in
     let e : a.k - c.loop-j.j ≡ suc (a.k - (c.loop-j.j + 1)) = omega arith in
-    sym (stops _ _ _ _ (rw c.digit-d.ensures at c.if-d-gt15.true)) ∙ rw e at c.loop-j.invariant.2
+    rw c.from_residual.ensures (sym (stops _ _ _ _ c.in_err-d.ensures.other) ∙ rw e at c.loop-j.invariant.1)
 
 pub overflow_mul-v : goal.overflow_mul-v
 overflow_mul-v c = omega (arith, fits c)
@@ -27,14 +26,14 @@ overflow_add-v c = omega (arith, fits c)
 pub loop-j-preserved : goal.loop-j-preserved
 loop-j-preserved c =
     let a = c.args in
+    let d = c.in_ok-d.ensures.digit in
     let e : a.k - c.loop-j.j ≡ suc (a.k - (c.loop-j.j + 1)) = omega arith in (
-      omega arith,
-      grown c.loop-j.j c.loop-j.v c.digit-d.result c.loop-j.invariant.1 c.if-d-gt15.false,
-      rw (c.digit-d.ensures, ← add_assoc) (sym (goes _ _ _ _ (rw c.digit-d.ensures at c.if-d-gt15.false)) ∙ rw e at c.loop-j.invariant.2),
+      grown c.loop-j.j c.loop-j.v c.in_ok-d.d c.loop-j.invariant.0 d.1,
+      rw (d.0, ← add_assoc) (sym (goes _ _ _ _ (rw d.0 at d.1)) ∙ rw e at c.loop-j.invariant.1),
     )
 
 pub returns : goal.returns
 unfolding hex_from
 returns c =
     let e : c.args.k - c.loop-j.j ≡ 0 = omega arith in
-    rw e at c.loop-j.invariant.2
+    rw e at c.loop-j.invariant.1

@@ -1,11 +1,7 @@
--- A guest read in the window.
-use mathlib.Core.Path.{sym, ap, ◌∙◌}
-use Rattle.access.specs.Access.{admits}
-use Rattle.mmio.proofs.Entry.{read_refused, read_made}
+-- A guest read in the window that is refused.
+use Rattle.std.proofs.lemmas.Result.{err_from_is_err_and}
+use Rattle.mmio.proofs.Entry.{read_refused}
 use Rattle.mmio.proofs.read.Goals as goal
 
-pub returns-in-No : goal.returns-in-No
-returns-in-No c = read_refused _ _ _ _ (sym (ap admits c.in-No.is) ∙ c.admitted.ensures)
-
-pub returns-in-Yes : goal.returns-in-Yes
-returns-in-Yes c = rw c.value.ensures (read_made _ _ _ (sym (ap admits c.in-Yes.is) ∙ c.admitted.ensures))
+pub returns-in_err-admitted : goal.returns-in_err-admitted
+returns-in_err-admitted c = let p = err_from_is_err_and c.from_residual.result c.from_residual.ensures.1 in rw (p.1, p.2) (read_refused _ _ _ _ c.in_err-admitted.ensures)

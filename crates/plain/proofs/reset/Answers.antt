@@ -11,10 +11,10 @@ pub loop-i-preserved : goal.loop-i-preserved
 loop-i-preserved c =
     let i = c.loop-i.i in
     let a = c.args in
-    (omega arith, rw (c.blend.ensures, add-one, c.loop-i.invariant.1) (rw zero-add at (map_n_step (returned_byte a.masks.now a.defaults.now) i 0 a.m.now)))
+    rw (c.blend.ensures, add-one, c.loop-i.invariant) (rw zero-add at (map_n_step (returned_byte a.masks.now a.defaults.now) i 0 a.m.now))
 
 pub returns : goal.returns
 unfolding returned_of
 returns c =
     let e : c.loop-i.i ≡ 256 = omega arith in
-    rw e at c.loop-i.invariant.1
+    rw e at c.loop-i.invariant

@@ -20,5 +20,5 @@ returns c =
     let n = sym c.not_ours.ensures ∙ c.if-not_ours.false in
     let l = sym c.at_latch.ensures ∙ c.if-at_latch.false in
     let o = sym c.other_function.ensures ∙ c.if-other_function.false in
-    let v = c.part.ensures ∙ ap (λ (x : ℕ). part_of x (a.port % 4) a.width) c.dword-whole.ensures ∙ port_part s (λ i. (fits i).fits) s.latch a.port a.width (data_access s.latch a.port a.width g n l) in
+    let v = c.of.ensures ∙ ap (λ (x : ℕ). part_of x (a.port % 4) a.width) c.dword-whole.ensures ∙ port_part s (λ i. (fits i).fits) s.latch a.port a.width (data_access s.latch a.port a.width g n l) in
     rw (g, n, l, o, v)

@@ -1,39 +1,28 @@
 -- A body, byte by byte: the first byte whose masks are not good decides.
-use mathlib.Core.Path.{◌≡◌, refl, sym, ap, ◌∙◌}
-use mathlib.Core.Bool.{true, false}
-use Prim.Native.Nat.{◌/◌}
-use native.Mathlib.Omega.{arith}
-use native.Mathlib.Nat.{one-mul}
-use native.Mathlib.Numerals.{add-one}
-use lib.ListN.{length}
-use Rattle.bits.proofs.Below.{first_start, first_step, first_end}
-use Rattle.sheet.specs.declared.Body.TheVariants.{Good}
-use Rattle.sheet.specs.Reads.{is_good, masks_at, body_is}
+use Rattle.std.proofs.Common.{◌≡◌, ◌/◌, length, Ok, Err, sym, one-mul, arith}
+use Rattle.std.proofs.lemmas.Result.{err_from_is_err_and}
+use Rattle.sheet.specs.Reads.{masks_at, body_is}
+use Rattle.sheet.proofs.First.{starts, goes_on, stops, ends}
 use Rattle.sheet.proofs.body_masks.Goals as goal
 
 pub loop-t-init : goal.loop-t-init
 unfolding body_is
-loop-t-init c = let b = c.args.b.now in (omega arith, refl, first_start is_good Good (masks_at b) (length b / 4))
+loop-t-init c = let b = c.args.b.now in starts (masks_at b) (length b / 4)
 
 pub loop-t-preserved : goal.loop-t-preserved
 loop-t-preserved c =
     let b = c.args.b.now in
-    let t = c.loop-t.t in
-    let found : c.byte_masks-a.result ≡ masks_at b t = c.byte_masks-a.ensures ∙ rw one-mul in
-    let good : is_good (masks_at b t) ≡ true = ap is_good (sym found) ∙ sym c.good.ensures ∙ c.if-good.true in
-    (omega arith, refl, c.loop-t.invariant.2 ∙ first_step is_good Good (masks_at b) (length b / 4) t (omega arith) ∙ rw (good, add-one))
+    let good : masks_at b c.loop-t.t ≡ Ok tt = rw one-mul (sym c.in_ok-byte_masks.ensures) in
+    goes_on (masks_at b) (length b / 4) c.loop-t.t (omega arith) c.loop-t.invariant good
 
--- the byte's masks, as the callee found them
-pub returns-else-good : goal.returns-else-good
-returns-else-good c =
+pub returns-in_err-byte_masks : goal.returns-in_err-byte_masks
+returns-in_err-byte_masks c =
     let b = c.args.b.now in
-    let t = c.loop-t.t in
-    let found : c.byte_masks-a.result ≡ masks_at b t = c.byte_masks-a.ensures ∙ rw one-mul in
-    let bad : is_good (masks_at b t) ≡ false = ap is_good (sym found) ∙ sym c.good.ensures ∙ c.if-good.false in
-    rw (c.loop-t.invariant.2, first_step is_good Good (masks_at b) (length b / 4) t (omega arith), bad) found
+    let p = err_from_is_err_and c.from_residual.result c.from_residual.ensures.1 in
+    let bad : masks_at b c.loop-t.t ≡ Err c.in_err-byte_masks.field-0.0 = rw one-mul (sym c.in_err-byte_masks.ensures) in
+    rw (p.1, p.2) (sym (stops (masks_at b) (length b / 4) c.loop-t.t _ (omega arith) c.loop-t.invariant bad))
 
 pub returns : goal.returns
 returns c =
     let b = c.args.b.now in
-    let e : c.loop-t.t ≡ length b / 4 = omega arith in
-    sym (c.loop-t.invariant.2 ∙ rw e (first_end is_good Good (masks_at b) (length b / 4)))
+    sym (ends (masks_at b) (length b / 4) c.loop-t.t (omega arith) c.loop-t.invariant)

@@ -23,4 +23,4 @@ pub returns : goal.returns
 unfolding entry_at
 returns c =
     let a = c.args in
-    rw (lt-ltb a.k (entries a.s.now) (omega (arith, c.if-count-k.false, c.count.ensures.0)), lt-ltb (4 * a.k + 4) (length a.s.now) (omega (arith, c.if-s-i.false)), c.pair-start.ensures)
+    rw (lt-ltb a.k (entries a.s.now) (omega (arith, c.if-count-k.false, c.count.ensures.0)), lt-ltb (4 * a.k + 4) (length a.s.now) (omega (arith, c.if-s-i.false)), c.from_le_bytes.ensures)

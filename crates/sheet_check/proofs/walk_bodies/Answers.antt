@@ -1,34 +1,25 @@
 -- The bodies in order: the first that is not good decides.
-use mathlib.Core.Path.{◌≡◌, sym, ap, ◌∙◌}
-use mathlib.Core.Bool.{true, false}
-use Prim.Native.Nat.{ℕ}
-use native.Mathlib.Omega.{arith}
-use native.Mathlib.Numerals.{add-one}
-use Rattle.bits.proofs.Below.{first_step, first_end}
+use Rattle.std.proofs.Common.{◌≡◌, ℕ, Ok, Err, sym, arith}
+use Rattle.std.proofs.lemmas.Result.{err_from_is_err_and}
 use Rattle.sheet.specs.Reads.{body_at}
-use Rattle.sheet_rules.specs.declared.SheetAnswer.{SheetAnswer}
-use Rattle.sheet_rules.specs.declared.SheetAnswer.TheVariants.{Good}
-use Rattle.sheet_rules.specs.Check.{accepts, named}
+use Rattle.sheet.proofs.First.{goes_on, stops, ends}
+use Rattle.sheet_rules.specs.Check.{SheetAnswer, named}
 use Rattle.sheet_check.proofs.walk_bodies.Goals as goal
 
 pub loop-k-preserved : goal.loop-k-preserved
 loop-k-preserved c =
-    let g = c.args in
-    let f : ℕ → SheetAnswer = λ (k : ℕ). named k (body_at g.s.now k) in
-    let found : c.name-a.result ≡ f c.loop-k.k = c.name-a.ensures ∙ rw c.body_of.ensures in
-    let fine : accepts (f c.loop-k.k) ≡ true = ap accepts (sym found) ∙ sym c.good.ensures ∙ c.if-good.true in
-    (omega arith, c.loop-k.invariant.1 ∙ first_step accepts Good f g.n c.loop-k.k (omega arith) ∙ rw (fine, add-one))
+    let f : ℕ → SheetAnswer = λ (k : ℕ). named k (body_at c.args.s.now k) in
+    let good : f c.loop-k.k ≡ Ok tt = rw (sym c.body_of.ensures) (sym c.in_ok-name.ensures) in
+    goes_on f c.args.n c.loop-k.k (omega arith) c.loop-k.invariant good
 
-pub returns-else-good : goal.returns-else-good
-returns-else-good c =
-    let g = c.args in
-    let f : ℕ → SheetAnswer = λ (k : ℕ). named k (body_at g.s.now k) in
-    let found : c.name-a.result ≡ f c.loop-k.k = c.name-a.ensures ∙ rw c.body_of.ensures in
-    let bad : accepts (f c.loop-k.k) ≡ false = ap accepts (sym found) ∙ sym c.good.ensures ∙ c.if-good.false in
-    found ∙ sym (c.loop-k.invariant.1 ∙ first_step accepts Good f g.n c.loop-k.k (omega arith) ∙ rw bad)
+pub returns-in_err-name : goal.returns-in_err-name
+returns-in_err-name c =
+    let f : ℕ → SheetAnswer = λ (k : ℕ). named k (body_at c.args.s.now k) in
+    let p = err_from_is_err_and c.from_residual.result c.from_residual.ensures.1 in
+    let bad : f c.loop-k.k ≡ Err c.in_err-name.field-0.0 = rw (sym c.body_of.ensures) (sym c.in_err-name.ensures) in
+    rw (p.1, p.2) (sym (stops f c.args.n c.loop-k.k _ (omega arith) c.loop-k.invariant bad))
 
 pub returns : goal.returns
 returns c =
-    let g = c.args in
-    let e : c.loop-k.k ≡ g.n = omega arith in
-    sym (c.loop-k.invariant.1 ∙ rw e (first_end accepts Good (λ (k : ℕ). named k (body_at g.s.now k)) g.n))
+    let f : ℕ → SheetAnswer = λ (k : ℕ). named k (body_at c.args.s.now k) in
+    sym (ends f c.args.n c.loop-k.k (omega arith) c.loop-k.invariant)

@@ -1,15 +1,15 @@
 -- A table, byte by byte.
-use mathlib.Core.Path.{◌≡◌}
-use Prim.Native.Nat.{ℕ}
-use native.Mathlib.Omega.{arith}
+use Rattle.std.proofs.Common.{ℕ, rules, arith}
 use Rattle.bits.proofs.Places.{as_bytes}
 use Rattle.sheet.specs.Sheet.{entries}
+use Rattle.sheet.specs.Reads.{part_no}
 use Rattle.sheet_rules.specs.Tables.{raw_in}
+use Rattle.sheet_load.proofs.Made.{made}
 use Rattle.sheet_load.proofs.table.Goals as goal
 
 pub returns : goal.returns
 returns c =
-    let g = c.args in
-    let f : ℕ → ℕ = λ (i : ℕ). raw_in g.s.now g.p i (entries g.s.now) in
-    let e : c.loop-i.i ≡ 256 = omega arith in
-    as_bytes c.loop-i.t f c.loop-i.invariant.1 (λ i h. c.loop-i.invariant.2 i (omega arith))
+    let a = c.args in
+    let cell : ℕ → ℕ = λ (i : ℕ). raw_in a.s.now (part_no a.part) i (entries a.s.now) in
+    let m = c.from_fn.ensures.items in
+    as_bytes c.from_fn.result cell m.long (λ i h. made _ cell _ (λ i r f' k. search rules) c.from_fn.result 0 256 m.each i (omega arith) (omega arith))

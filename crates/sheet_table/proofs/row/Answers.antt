@@ -1,12 +1,16 @@
--- A line, column by column, with the LF behind them.
-use native.Mathlib.Omega.{arith}
-use Rattle.line_forms.specs.Ascii.{letter}
-use Rattle.sheet_table.specs.Row.{char_of, row_text}
-use Rattle.sheet_table.proofs.Laws.{from_then}
+use Rattle.std.proofs.Common.{◌++◌, ◌∷◌, [], ◌+◌, ◌-◌, ◌∙◌, ap, arith, length}
+use Rattle.std.proofs.lemmas.List.{length-append}
+use Rattle.bits.specs.Places.{from}
+use Rattle.sheet_table.specs.Row.{char_of}
+use Rattle.sheet_table.proofs.Laws.{next_column}
 use Rattle.sheet_table.proofs.row.Goals as goal
 
-pub returns : goal.returns
-unfolding row_text
-returns c =
-    let g = c.args in
-    from_then 81 c.loop-c.t (char_of g.s.now g.k) (letter "\n") c.loop-c.invariant.1 c.loop-c.invariant.2 (λ i h. c.loop-c.invariant.3 i (omega arith))
+pub loop-c-preserved : goal.loop-c-preserved
+loop-c-preserved g c =
+    let f = char_of c.args.s.now c.args.k in
+    record {
+      put = ap (λ t. t ++ from (81 - (c.loop-c.c + 1)) f (c.loop-c.c + 1)) (c.push.ensures ∙ ap (λ x. c.loop-c.out ++ x ∷ []) c.character.ensures)
+          ∙ next_column c.loop-c.out f 81 c.loop-c.c c.loop-c-test.true
+          ∙ c.loop-c.invariant.put;
+      long = omega (arith, ap length c.push.ensures, length-append c.loop-c.out (c.character.result ∷ []), c.loop-c.invariant.long);
+    }

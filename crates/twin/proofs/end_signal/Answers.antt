@@ -9,4 +9,4 @@ pub returns : goal.returns
 returns c =
     let s = c.args.s in
     let n : length s.bytes ≡ 256 = search rules in
-    rw (c.end-after.ensures.m_after, c.end-after.ensures.value) (end_is s n)
+    rw (c.end.ensures.m_after, c.end.ensures.c_after) (end_is s n)

@@ -14,4 +14,4 @@ returns c =
     let s = a.s in
     let n : length s.bytes ≡ 256 = search rules in
     let fits : (i : ℕ) → Fits w8 (get_or s.bytes i 0) = λ i. search rules in
-    ap (whole s n (λ i. (fits i).fits)) c.write-w.ensures ∙ rw c.all_guests-guest.ensures (write_is s n (λ i. (fits i).fits) a.offset a.lanes a.value)
+    ap (whole s n (λ i. (fits i).fits)) c.write-answer.ensures ∙ rw c.all_guests-guest.ensures (write_is s n (λ i. (fits i).fits) a.offset a.lanes a.value)

@@ -1,0 +1,35 @@
+-- What the turns lead to.
+use Rattle.std.proofs.Common.{◌≡◌, take, sym, refl, ◌∙◌, arith}
+use Rattle.session_loop.specs.declared.Heard.TheVariants.{More, Over}
+use Rattle.session_loop.proofs.Turns.{at_first, goes_on, is_over, breaks_off, stopped, over_lines}
+use Rattle.session_loop.proofs.session.Goals as goal
+
+pub loop-init : goal.loop-init
+loop-init g c = record {
+  within = omega arith;
+  long = refl;
+  so_far = at_first g.M.Machine.next g.M.Machine.say g.M.Machine.most _;
+}
+
+pub returns-in_err-n-clause-led : goal.returns-in_err-n-clause-led
+returns-in_err-n-clause-led g c =
+    stopped g.M.Machine.next g.M.Machine.say g.M.Machine.most c.from_residual-in_err-n.result c.args.machine.now c.turn.new.machine c.from_residual-in_err-n.ensures.0 (breaks_off g.M.Machine.next g.M.Machine.say g.M.Machine.most c.in_ok-heard.heard c.args.machine.now c.loop.machine c.turn.new.machine (take c.loop.kept c.loop.buf) c.turn.new.out c.turn.new.buf c.in_err-n.ensures.end c.loop.invariant.so_far c.in_ok-heard.ensures.turned)
+
+pub returns-in-Over-clause-led : goal.returns-in-Over-clause-led
+returns-in-Over-clause-led g c =
+    let e : c.in_ok-heard.heard ≡ Over = sym c.in_ok-n.ensures.same ∙ c.in-Over.is in
+    is_over g.M.Machine.next g.M.Machine.say g.M.Machine.most c.args.machine.now c.loop.machine c.turn.new.machine (take c.loop.kept c.loop.buf) c.turn.new.out c.turn.new.buf c.loop.invariant.so_far (rw e at c.in_ok-heard.ensures.turned)
+
+pub returns-in-Over-clause-lines : goal.returns-in-Over-clause-lines
+returns-in-Over-clause-lines g c =
+    let m = g.met.M.Machine in
+    over_lines g.M.Machine.next g.M.Machine.say g.M.Machine.most m.some m.next_alike m.say_alike c.args.machine.now c.turn.new.machine (returns-in-Over-clause-led g c)
+
+pub loop-preserved : goal.loop-preserved
+loop-preserved g c =
+    let e : c.in_ok-heard.heard ≡ More c.in-More.n = sym c.in_ok-n.ensures.same ∙ c.in-More.is in
+    record {
+      within = rw e at c.in_ok-heard.ensures.kept.0;
+      long = c.in_ok-heard.ensures.kept.1 ∙ c.loop.invariant.long;
+      so_far = goes_on g.M.Machine.next g.M.Machine.say g.M.Machine.most c.in-More.n c.args.machine.now c.loop.machine c.turn.new.machine (take c.loop.kept c.loop.buf) c.turn.new.out c.turn.new.buf c.loop.invariant.so_far (rw e at c.in_ok-heard.ensures.turned);
+    }
