@@ -125,7 +125,9 @@ fn judge<R: Print + Eprint + AllocGlobal>(rt: &R, s: &[u8]) -> bool
 }
 
 // Reads the file that the program's only argument names, at most a byte more than the longest sheet, and checks it.
-pub fn named<R: Files + Env + Print + Eprint + AllocGlobal>(rt: &R) -> Option<Held> {
+pub fn named<R: Files + Env + Print + Eprint + AllocGlobal>(rt: &R) -> Option<Held>
+    ensures { IfSome result (λ h. (h.n ≤ length h.bytes) × IsOk (check_of (take h.n h.bytes))) }
+{
     let mut bytes = [0; ROOM];
     let mut name = [0; 4096];
     let length = argument(rt, &mut name)?;
