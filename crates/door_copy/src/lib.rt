@@ -6,6 +6,7 @@ ghost use Rattle.asked.specs.Asked.{sight_of, response_of};
 ghost use Rattle.door_told.specs.Heard.{heard, heard_of};
 ghost use Rattle.door_write.specs.Outside.{outside, outside_of};
 
+use answer::Stepped;
 use asked::{Asked, Look};
 use rules::{Event, State};
 
@@ -13,9 +14,9 @@ use rules::{Event, State};
 pub fn step_told(s: &mut State, e: Event) -> u64
     ensures { outside (heard result) s.new ≡ outside_of (response_of (Some (Asked.Event e)) s.old) }
 {
-    let r = step::step(*s, e);
-    *s = r.state;
-    door_told::answered(r.answer)
+    let Stepped { answer, state } = step::step(*s, e);
+    *s = state;
+    door_told::answered(answer)
 }
 
 // What a look shows.

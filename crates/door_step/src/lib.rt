@@ -11,7 +11,7 @@ use answer::Refusal;
 use asked::Asked;
 use rules::{Event, State};
 
-// An event: a guest's write and read in place, since they are most of a session.
+// An event: a guest's write and read in place, since they are most of a session, and the end signal, since a driver's poll goes over it.
 fn event_told(s: &mut State, e: Event) -> u64
     ensures { outside (heard result) s.new ≡ outside_of (response_of (Some (Asked.Event e)) s.old) }
 {
@@ -20,6 +20,10 @@ fn event_told(s: &mut State, e: Event) -> u64
         Event::Read(o, l) => {
             door_write::bytes_fit(&s.bytes);
             door_told::read(&s.bytes, s.flags.busy, o, l)
+        }
+        Event::EndSignal => {
+            function_reset::end(&mut s.bytes, &mut s.flags);
+            door_told::answered(Ok(None))
         }
         _ => door_copy::step_told(s, e),
     }

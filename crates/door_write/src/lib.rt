@@ -34,7 +34,8 @@ pub fn put(s: &mut State, offset: u32, lanes: u32, value: u32) -> Answer
 pub fn write_told(s: &mut State, offset: u32, lanes: u32, value: u32) -> u64
     ensures { outside (heard result) s.new ≡ outside_of (response_of (Some (Asked.Event (Event.Write offset lanes value))) s.old) }
 {
-    door_told::answered(put(s, offset, lanes, value))
+    let a = put(s, offset, lanes, value);
+    door_told::answered(a)
 }
 
 // ---- by value

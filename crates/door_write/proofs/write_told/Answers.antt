@@ -10,5 +10,5 @@ use Rattle.door_write.proofs.write_told.Goals as goal
 pub returns : goal.returns
 unfolding happens
 returns c =
-    ap (λ (h : Heard). outside h c.put.new.s) c.answered.ensures
-    ∙ ap (λ (x : Outcome). outside_of (event_response x)) c.put.ensures
+    ap (λ (h : Heard). outside h c.put-a.new.s) c.answered.ensures
+    ∙ ap (λ (x : Outcome). outside_of (event_response x)) c.put-a.ensures
