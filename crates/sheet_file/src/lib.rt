@@ -1,7 +1,7 @@
 // The sheet's file that a program's argument names: read, checked, and refused with a number for the session and a sentence for a person.
 #![tactic(auto)]
 
-ghost use Rattle.std.specs.Prelude.{◌≡◌, ◌≤◌, IfOk, IfSome, IsOk, is_ok, length, take};
+ghost use Rattle.std.specs.Prelude.{◌≡◌, ◌≤◌, IfErr, IfOk, IfSome, IsErr, IsOk, is_ok, length, take};
 ghost use Rattle.sheet_rules.specs.Check.{check_of};
 
 use sheet_rules::SheetFault;
@@ -101,6 +101,15 @@ impl Held {
     }
 }
 
+// What is refused: the first `n` bytes, none where nothing was read.
+#[derive(Clone, Copy)]
+pub struct Withheld {
+    pub bytes: [u8; ROOM],
+    pub n: usize,
+    ghost in_bounds: { n ≤ 1282 },
+    ghost refused: { IsErr (check_of (take n bytes)) },
+}
+
 // `NO n`, with the refusal's number, which has two digits; and the fault in a sentence.
 fn tell<R: Print + Eprint + AllocGlobal>(rt: &R, s: &[u8], fault: SheetFault) {
     let n = sheet_check::number(Err(fault));
@@ -124,17 +133,23 @@ fn judge<R: Print + Eprint + AllocGlobal>(rt: &R, s: &[u8]) -> bool
     }
 }
 
-// Reads the file that the program's only argument names, at most a byte more than the longest sheet, and checks it.
-pub fn named<R: Files + Env + Print + Eprint + AllocGlobal>(rt: &R) -> Option<Held>
-    ensures { IfSome result (λ h. (h.n ≤ length h.bytes) × IsOk (check_of (take h.n h.bytes))) }
+// Reads the file that the program's only argument names, at most a byte more than the longest sheet, and checks it: it is held exactly where it is not refused.
+#[tactic(auto, unfolding(sheet_rules::specs::Check::check_of))]
+pub fn named<R: Files + Env + Print + Eprint + AllocGlobal>(rt: &R) -> Result<Held, Withheld>
+    ensures held { IfOk result (λ h. (h.n ≤ length h.bytes) × IsOk (check_of (take h.n h.bytes))) }
+    ensures withheld { IfErr result (λ w. (w.n ≤ length w.bytes) × IsErr (check_of (take w.n w.bytes))) }
 {
     let mut bytes = [0; ROOM];
     let mut name = [0; 4096];
-    let length = argument(rt, &mut name)?;
-    let n = read_named(rt, &name[..length], &mut bytes)?;
+    let Some(length) = argument(rt, &mut name) else {
+        return Err(Withheld { bytes, n: 0 });
+    };
+    let Some(n) = read_named(rt, &name[..length], &mut bytes) else {
+        return Err(Withheld { bytes, n: 0 });
+    };
     if judge(rt, &bytes[..n]) {
-        Some(Held { bytes, n })
+        Ok(Held { bytes, n })
     } else {
-        None
+        Err(Withheld { bytes, n })
     }
 }

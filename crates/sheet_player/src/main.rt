@@ -5,7 +5,7 @@ use player_line::{ANSWERS, BUFFER, SheetPlayer};
 use text_pieces::Text;
 
 fn main(rt: HostRuntime) {
-    let Some(held) = sheet_file::named(&rt) else {
+    let Ok(held) = sheet_file::named(&rt) else {
         return;
     };
     let loaded = sheet_load::load(held.sheet());

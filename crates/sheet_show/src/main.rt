@@ -4,7 +4,7 @@
 use text_pieces::Text;
 
 fn main(rt: HostRuntime) {
-    let Some(held) = sheet_file::named(&rt) else {
+    let Ok(held) = sheet_file::named(&rt) else {
         return;
     };
     // a line of 82 bytes for the heading and for as many entries as a byte can say

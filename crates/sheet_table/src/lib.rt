@@ -84,9 +84,9 @@ fn character(s: &[u8], k: usize, c: usize) -> u8
     }
 }
 
-// A line of the table: entry `k` of the sheet.
+// A line of the table behind what is put: entry `k` of the sheet.
 #[tactic(auto, unfolding(crate::specs::Row::row_text), using(crate::proofs::Laws::last_column))]
-pub fn row<const N: usize>(s: &[u8], k: usize, out: &mut Text<N>)
+pub fn put_row<const N: usize>(s: &[u8], k: usize, out: &mut Text<N>)
     requires { (k < 256) × (length out.old + 82 ≤ N) }
     ensures put { out.new ≡ out.old ++ row_text s.now k }
     ensures long { length out.new ≡ length out.old + 82 }
@@ -95,6 +95,17 @@ pub fn row<const N: usize>(s: &[u8], k: usize, out: &mut Text<N>)
         out.push(character(s, k, c));
     }
     out.push(b'\n');
+}
+
+// A line of the table: entry `k` of the sheet.
+pub fn row(s: &[u8], k: usize) -> Text<82>
+    requires { k < 256 }
+    ensures value { result ≡ row_text s.now k }
+    ensures long { length result ≡ 82 }
+{
+    let mut line = Text::new();
+    put_row(s, k, &mut line);
+    line
 }
 
 // ---- the table
@@ -108,6 +119,6 @@ pub fn table<const N: usize>(s: &[u8], out: &mut Text<N>)
 {
     out.put(&head());
     for k in 0..sheet::count(s) {
-        row(s, k, out);
+        put_row(s, k, out);
     }
 }

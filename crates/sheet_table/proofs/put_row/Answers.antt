@@ -3,7 +3,7 @@ use Rattle.std.proofs.lemmas.List.{length-append}
 use Rattle.bits.specs.Places.{from}
 use Rattle.sheet_table.specs.Row.{char_of}
 use Rattle.sheet_table.proofs.Laws.{next_column}
-use Rattle.sheet_table.proofs.row.Goals as goal
+use Rattle.sheet_table.proofs.put_row.Goals as goal
 
 pub loop-c-preserved : goal.loop-c-preserved
 loop-c-preserved g c =

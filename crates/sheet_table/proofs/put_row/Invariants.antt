@@ -1,7 +1,7 @@
 use Rattle.std.proofs.Common.{◌≡◌, ◌++◌, ◌+◌, length, ◌-◌}
 use Rattle.bits.specs.Places.{from}
 use Rattle.sheet_table.specs.Row.{char_of}
-use Rattle.sheet_table.proofs.row.Given as goal
+use Rattle.sheet_table.proofs.put_row.Given as goal
 
 -- the columns that are still to come end what is put
 abbrev pub invariant-loop-c : goal.invariant-loop-c
