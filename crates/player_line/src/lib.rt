@@ -63,6 +63,20 @@ impl SessionPlayer {
             flags,
         }
     }
+
+    // The bytes that it holds, as after a session.
+    pub fn bytes(&self) -> &[u8; 256]
+        ensures { result.now ≡ self.now.bytes }
+    {
+        &self.bytes
+    }
+
+    // And its flags.
+    pub fn flags(&self) -> Flags
+        ensures { result ≡ self.now.flags }
+    {
+        self.flags
+    }
 }
 
 impl<const N: usize> Machine<N> for SessionPlayer {
@@ -125,6 +139,14 @@ impl SheetPlayer {
         ensures { result ≡ boxed_with tables fresh_flags bytes }
     {
         SheetPlayer { tables, bytes }
+    }
+
+    // The bytes that it holds, as after a session.
+    pub fn bytes(&self) -> &[u8; 256]
+        ensures { result.now ≡ self.now.bytes }
+    {
+        let SheetPlayer { bytes, .. } = self;
+        bytes
     }
 }
 

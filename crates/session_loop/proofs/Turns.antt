@@ -13,6 +13,14 @@ use Rattle.session.specs.Turn.{played_of, heard, Led}
 use Rattle.session_loop.specs.Turn.{Turned}
 use Rattle.session.proofs.Blocks.{after_blocks}
 
+-- ---- results of a turn that are not the next block
+
+pub end_is_not_more : {E : Type 0} (n : ℕ) → ◌≡◌ {A = Result Heard E} (Ok Over) (Ok (More n)) → ⊥
+end_is_not_more n e = cc
+
+pub err_is_not_more : {E : Type 0} (x : E) (n : ℕ) → ◌≡◌ {A = Result Heard E} (Err x) (Ok (More n)) → ⊥
+err_is_not_more x n e = cc
+
 -- ---- a turn
 
 module _ {S : Type 0} (next : S → List ℕ → S) (say : S → List ℕ → List ℕ) (most : ℕ) where
@@ -56,13 +64,24 @@ module _ {S : Type 0} (next : S → List ℕ → S) (say : S → List ℕ → Li
       (f.0 ++ (w.0 ∷ []), z.0 ∙ rw (f.1, f.2) w.1, z.1 ∙ rw (f.1, f.2) w.3)
 
   -- the turn that finds the input's end
-  pub is_over : (s t u : S) (k text b : List ℕ) → SoFar s t k → Turned next say most {E = ⊥} (Ok Over) t k u text b → (xs : List (List ℕ)) × (blocks_state next say most s [] xs ≡ u)
-  is_over s t u k text b f w = (f.0, ended f.0 s [] ∙ rw (f.1, f.2) w.0)
+  pub is_end : (s t u : S) (k text b : List ℕ) → SoFar s t k → Turned next say most {E = ⊥} (Ok Over) t k u text b → (xs : List (List ℕ)) × (blocks_state next say most s [] xs ≡ u)
+  is_end s t u k text b f w = (f.0, ended f.0 s [] ∙ rw (f.1, f.2) w.0)
 
-  -- where it breaks off behind a turn that is not the last, since its answers cannot be written
-  pub breaks_off : (h : Heard) (s t u : S) (k text b : List ℕ) → (h ≡ Over → ⊥) → SoFar s t k → Turned next say most {E = ⊥} (Ok h) t k u text b → (xs : List (List ℕ)) × ((heard next say most s [] xs).state ≡ u)
-  breaks_off (More n) s t u k text b e f w = let z = goes_on n s t u k text b f w in (z.0, z.1)
-  breaks_off Over s t u k text b e f w = absurd (e refl)
+  -- the turn that finds the input's end, or cannot read
+  pub is_over : {E : Type 0} (r : Result Heard E) (s t u : S) (k text b : List ℕ) → ((n : ℕ) → r ≡ Ok (More n) → ⊥) → SoFar s t k → Turned next say most r t k u text b → Led next say most r s u
+  is_over (Ok (More n)) s t u k text b e f w = absurd (e n refl)
+  is_over (Ok Over) s t u k text b e f w = is_end s t u k text b f w
+  is_over (Err x) s t u k text b e f w = (f.0, f.1 ∙ w.0)
+
+  -- where it breaks off
+  pub breaks_off : {A E : Type 0} (r : Result A E) (s t : S) (k : List ℕ) → IsErr r → SoFar s t k → Led next say most r s t
+  breaks_off (Ok a) s t k e f = absurd (subst T (sym e) tt)
+  breaks_off (Err x) s t k e f = (f.0, f.1)
+
+  -- behind a turn that is not the last, since its answers cannot be written
+  pub breaks_off_behind : {A E : Type 0} (r : Result A E) (h : Heard) (s t u : S) (k text b : List ℕ) → IsErr r → (h ≡ Over → ⊥) → SoFar s t k → Turned next say most {E = ⊥} (Ok h) t k u text b → Led next say most r s u
+  breaks_off_behind r (More n) s t u k text b i e f w = breaks_off r s u (take n b) i (goes_on n s t u k text b f w)
+  breaks_off_behind r Over s t u k text b i e f w = absurd (e refl)
 
   -- where the first `most` bytes of a line say all, the end leaves the state after the lines of some input
   pub over_lines : 0 < most → ((s : S) (l k : List ℕ) → take most l ≡ take most k → next s l ≡ next s k) → ((s : S) (l k : List ℕ) → take most l ≡ take most k → say s l ≡ say s k) → (s u : S) → (xs : List (List ℕ)) × (blocks_state next say most s [] xs ≡ u) → (input : List ℕ) × (after next say s (all_lines input) ≡ u)

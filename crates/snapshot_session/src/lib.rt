@@ -5,7 +5,7 @@ ghost use Rattle.std.specs.Prelude.{◌≡◌, ℕ, List, [], IfOk};
 ghost use Rattle.rules.specs.declared.State.{State};
 ghost use Rattle.console_lines.specs.Console.{line_next};
 ghost use Rattle.console_lines.specs.Alike.{some, next_alike};
-ghost use Rattle.snapshot_session.specs.Shown.{Played, Shown};
+ghost use Rattle.snapshot_session.specs.Shown.{Played, PlayedInBlocks, Shown};
 ghost use Rattle.snapshot_session.specs.Silence.{silence, silence_alike};
 
 use console_lines::Console;
@@ -19,10 +19,10 @@ use text_pieces::Text;
 // The text of a dump is so long at most.
 pub const DUMP: usize = 866;
 
-// A console whose answers are not wanted.
+// A console whose answers are not wanted: it is heard silently, from any state, and the state is had from it afterwards.
 #[derive(Drop)]
-struct Silent {
-    console: Console,
+pub struct Silent {
+    pub console: Console,
 }
 
 impl Model for Silent {
@@ -57,7 +57,8 @@ impl<const N: usize> Machine<N> for Silent {
 
 // The state after all of standard input, from the fresh one; none where that did not end, but a read failed.
 fn played<R: Input + Print + Eprint + AllocGlobal>(rt: &R) -> io::Result<State>
-    ensures { IfOk result Played }
+    ensures lines { IfOk result Played }
+    ensures blocks { IfOk result PlayedInBlocks }
 {
     let mut silent = Silent {
         console: Console {
@@ -72,7 +73,7 @@ fn played<R: Input + Print + Eprint + AllocGlobal>(rt: &R) -> io::Result<State>
 }
 
 // The dump of what a guest reads then.
-#[tactic(auto, using(crate::proofs::Blocks::shown))]
+#[tactic(auto, using(crate::proofs::Blocks::shown_in_blocks))]
 pub fn snap<R: Input + Print + Eprint + AllocGlobal>(rt: &R) -> io::Result<Text<DUMP>>
     ensures { IfOk result Shown }
 {
