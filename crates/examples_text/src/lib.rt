@@ -7,7 +7,7 @@ use std::io;
 
 // ---- direct
 
-// The state that the write leaves; more follows in its line.
+// The state that the write leaves; more follows in its line. An access's offset has two digits and its lanes one, whatever they are.
 pub fn guest_write<R: Print>(
     rt: &R,
     s: State,
@@ -17,7 +17,11 @@ pub fn guest_write<R: Print>(
 ) -> io::Result<State> {
     let w = twin::write(s, offset, lanes, value);
     let answer = Written(w.answer);
-    print!(rt; "W {offset:02X} {lanes:X} {value:08X}{answer}, ")?;
+    print!(rt;
+        "W {:02X} {:X} {value:08X}{answer}, ",
+        offset % 256,
+        lanes % 16
+    )?;
     Ok(w.state)
 }
 
@@ -26,7 +30,7 @@ pub fn guest_read<R: Print>(rt: &R, s: State, offset: u32, lanes: u32) -> io::Re
         answer: twin::read(s, offset, lanes),
         digits: 8,
     };
-    println!(rt; "R {offset:02X} {lanes:X}{read}")
+    println!(rt; "R {:02X} {:X}{read}", offset % 256, lanes % 16)
 }
 
 // ---- the host's end signal
@@ -47,11 +51,11 @@ pub fn latch<R: Print>(rt: &R, s: State, value: u32) -> io::Result<State> {
     Ok(w.state)
 }
 
-// Of two bytes.
+// Of two bytes. The port has three digits.
 pub fn port_read<R: Print>(rt: &R, s: State, port: u16) -> io::Result<()> {
     let read = Read {
         answer: ports::port_read(s, port, 2),
         digits: 4,
     };
-    println!(rt; "2-byte read at {port:03X}{read}")
+    println!(rt; "2-byte read at {:03X}{read}", port % 4096)
 }
